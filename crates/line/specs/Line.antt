@@ -1,0 +1,167 @@
+-- Document 01, "The line": lanes and their phases, and the values that a line starts with.
+use Prim.Native.Nat.{ℕ, _+_}
+use mathlib.Core.Bool.{Bool, true, false, not, _&&_}
+use mathlib.Core.List.{List}
+use lib.ListN.{getD, length, replicate}
+use mathlib.Core.Path.{_≡_}
+use Rattle.view.specs.View.{place, plainView}
+use Rattle.view.specs.declared.Place.{Place}
+use Rattle.line.specs.declared.Purpose.{Purpose}
+use Rattle.line.specs.declared.Phase.{Phase}
+use Rattle.line.specs.declared.Lane.{Lane}
+use Rattle.line.specs.declared.Line.{Line}
+
+-- "N is 1 to 64"; the functions' array lengths are held to this number by the contract of `Line::unopened`
+abbrev pub mostLanes : ℕ
+mostLanes = 64
+
+-- "The pointer is a place, 0 to 65,536"
+abbrev pub mostPointer : ℕ
+mostPointer = 65536
+
+-- ---- purposes
+-- "Purposes: 0 shared write, 1 shared read, 2 whole book"
+abbrev pub purposeCode : Purpose → ℕ
+purposeCode Purpose.SharedWrite = 0
+purposeCode Purpose.SharedRead = 1
+purposeCode Purpose.WholeBook = 2
+
+abbrev pub isSharedWrite : Purpose → Bool
+isSharedWrite Purpose.SharedWrite = true
+isSharedWrite Purpose.SharedRead = false
+isSharedWrite Purpose.WholeBook = false
+
+abbrev pub isSharedRead : Purpose → Bool
+isSharedRead Purpose.SharedWrite = false
+isSharedRead Purpose.SharedRead = true
+isSharedRead Purpose.WholeBook = false
+
+abbrev pub isWholeBook : Purpose → Bool
+isWholeBook Purpose.SharedWrite = false
+isWholeBook Purpose.SharedRead = false
+isWholeBook Purpose.WholeBook = true
+
+-- ---- phases
+-- a value for each phase, in the order idle, waiting, woken, holding, busy writing, busy reading, gathered
+abbrev pub byPhase : {A : Type 0} → A → A → A → A → A → A → A → Phase → A
+byPhase a b c d e f g Phase.Idle = a
+byPhase a b c d e f g (Phase.Waiting p) = b
+byPhase a b c d e f g (Phase.Woken p v) = c
+byPhase a b c d e f g (Phase.Holding p v) = d
+byPhase a b c d e f g (Phase.BusyWriting left next) = e
+byPhase a b c d e f g (Phase.BusyReading left next) = f
+byPhase a b c d e f g (Phase.Gathered n) = g
+
+abbrev pub isIdle : Phase → Bool
+isIdle x = byPhase true false false false false false false x
+
+abbrev pub isWaiting : Phase → Bool
+isWaiting x = byPhase false true false false false false false x
+
+abbrev pub isWoken : Phase → Bool
+isWoken x = byPhase false false true false false false false x
+
+abbrev pub isHolding : Phase → Bool
+isHolding x = byPhase false false false true false false false x
+
+-- woken or holding: the lane whose turn it is
+abbrev pub hasTurn : Phase → Bool
+hasTurn x = byPhase false false true true false false false x
+
+abbrev pub isWriting : Phase → Bool
+isWriting x = byPhase false false false false true false false x
+
+abbrev pub isReading : Phase → Bool
+isReading x = byPhase false false false false false true false x
+
+abbrev pub isBusy : Phase → Bool
+isBusy x = byPhase false false false false true true false x
+
+abbrev pub isGathered : Phase → Bool
+isGathered x = byPhase false false false false false false true x
+
+abbrev pub isIdleOrGathered : Phase → Bool
+isIdleOrGathered x = byPhase true false false false false false true x
+
+-- "A flag is 1 for waiting, woken and holding lanes and no others"
+abbrev pub flagFor : Phase → ℕ
+flagFor x = byPhase 0 1 1 1 0 0 0 x
+
+-- the purpose of a waiting, woken or holding lane (that of the others is not read)
+abbrev pub purposeIn : Phase → Purpose
+purposeIn Phase.Idle = Purpose.SharedWrite
+purposeIn (Phase.Waiting p) = p
+purposeIn (Phase.Woken p v) = p
+purposeIn (Phase.Holding p v) = p
+purposeIn (Phase.BusyWriting left next) = Purpose.SharedWrite
+purposeIn (Phase.BusyReading left next) = Purpose.SharedRead
+purposeIn (Phase.Gathered n) = Purpose.SharedWrite
+
+-- the place that a phase carries: the pointer value of a woken or holding lane, the next place of a busy one
+abbrev pub placeIn : Phase → Place
+placeIn Phase.Idle = place 0
+placeIn (Phase.Waiting p) = place 0
+placeIn (Phase.Woken p v) = v
+placeIn (Phase.Holding p v) = v
+placeIn (Phase.BusyWriting left next) = next
+placeIn (Phase.BusyReading left next) = next
+placeIn (Phase.Gathered n) = place 0
+
+-- the records that a busy lane has left
+abbrev pub leftIn : Phase → ℕ
+leftIn Phase.Idle = 0
+leftIn (Phase.Waiting p) = 0
+leftIn (Phase.Woken p v) = 0
+leftIn (Phase.Holding p v) = 0
+leftIn (Phase.BusyWriting left next) = left
+leftIn (Phase.BusyReading left next) = left
+leftIn (Phase.Gathered n) = 0
+
+-- the count with which a lane entered an ordered call
+abbrev pub countIn : Phase → ℕ
+countIn Phase.Idle = 0
+countIn (Phase.Waiting p) = 0
+countIn (Phase.Woken p v) = 0
+countIn (Phase.Holding p v) = 0
+countIn (Phase.BusyWriting left next) = 0
+countIn (Phase.BusyReading left next) = 0
+countIn (Phase.Gathered n) = n
+
+abbrev pub holdsShared : Phase → Bool
+holdsShared x = isHolding x && not (isWholeBook (purposeIn x))
+
+abbrev pub holdsWhole : Phase → Bool
+holdsWhole x = isHolding x && isWholeBook (purposeIn x)
+
+-- ---- lanes and lines
+-- a test or a number of a phase, as one of the lane
+abbrev pub on : {A : Type 0} → (Phase → A) → Lane → A
+on f l = f (l .phase)
+
+abbrev pub lane : Phase → Lane
+lane x = record { phase = x }
+
+abbrev pub idleLane : Lane
+idleLane = lane Phase.Idle
+
+abbrev pub phaseAt : Line → ℕ → Phase
+phaseAt l i = (getD (l .lane) i idleLane) .phase
+
+-- "An unopened line has N, capacity, size and pointer 0, and the plain view"; its entries are idle with flag 0
+abbrev pub unopened : Line
+unopened =
+    record {
+      lanes = 0;
+      capacity = 0;
+      size = 0;
+      pointer = place 0;
+      view = plainView;
+      lane = replicate mostLanes idleLane;
+      flag = replicate mostLanes 0;
+    }
+
+-- what the types fix of a line: the lengths of its arrays
+pub record Shaped (l : Line) : Type 0 where
+  pub lanes-length : length (l .lane) ≡ mostLanes
+  pub flags-length : length (l .flag) ≡ mostLanes
+  pub blocks-length : length (l .view .block) ≡ 8

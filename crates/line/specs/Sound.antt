@@ -1,0 +1,85 @@
+-- Document 01, "Sound line", sentence by sentence, for any numbers that the types hold and any length of the lent buffer.
+use Prim.Native.Nat.{ℕ, _+_}
+use mathlib.Core.Bool.{Bool, true, false, cond, _&&_, _||_}
+use mathlib.Core.List.{List, [], _∷_, map}
+use lib.ListN.{drop}
+use lib.Dec.{leb, ltb, eqb}
+use Rattle.lists.specs.Lists.{all, any, count, every, implies, pairwise, sameNumbers, sumOf}
+use Rattle.view.specs.View.{fits, isPlain, viewOk}
+use Rattle.view.specs.declared.Place.{Place}
+use Rattle.view.specs.declared.View.{View}
+use Rattle.line.specs.declared.Phase.{Phase}
+use Rattle.line.specs.declared.Lane.{Lane}
+use Rattle.line.specs.declared.Line.{Line}
+use Rattle.line.specs.Line.{byPhase, countIn, flagFor, hasTurn, isBusy, isGathered, isIdle, isIdleOrGathered, isWriting, leftIn, mostLanes, mostPointer, on, placeIn}
+
+-- "An unopened line has N, capacity, size and pointer 0, and the plain view"
+abbrev pub unopenedNumbers : Line → Bool
+unopenedNumbers l = every (eqb (l .capacity) 0 ∷ eqb (l .size) 0 ∷ eqb (l .pointer .0) 0 ∷ isPlain (l .view) ∷ [])
+
+-- "N, capacity, size (at most the capacity), pointer and view are in range and the buffer holds the capacity"
+abbrev pub openNumbers : Line → ℕ → Bool
+openNumbers l buffer =
+    every
+    (leb (l .lanes) mostLanes
+    ∷ leb 8 (l .capacity)
+    ∷ leb (l .capacity) 65536
+    ∷ leb (l .size) (l .capacity)
+    ∷ leb (l .pointer .0) mostPointer
+    ∷ viewOk (l .capacity) (l .view)
+    ∷ leb (l .capacity) buffer
+    ∷ [])
+
+abbrev pub numbersOk : Line → ℕ → Bool
+numbersOk l buffer = cond (eqb (l .lanes) 0) (unopenedNumbers l) (openNumbers l buffer)
+
+-- "A flag is 1 for waiting, woken and holding lanes and no others"
+abbrev pub flagsOk : Line → Bool
+flagsOk l = sameNumbers (l .flag) (map (on flagFor) (l .lane))
+
+-- "If a flag is 1, exactly one lane is woken or holding, and its value is the pointer"
+abbrev pub valueOk : Place → Phase → Bool
+valueOk pointer x = implies (hasTurn x) (eqb (placeIn x .0) (pointer .0))
+
+abbrev pub turnOk : Line → Bool
+turnOk l = implies (any (eqb 1) (l .flag)) (eqb (count (on hasTurn) (l .lane)) 1 && all (on (valueOk (l .pointer))) (l .lane))
+
+-- the counts of the gathered lanes, added up
+abbrev pub gatheredTotal : List Lane → ℕ
+gatheredTotal ls = sumOf (on countIn) ls
+
+-- "If a lane is gathered, all are idle or gathered, not all gathered, and the gathered total fits"
+abbrev pub gatheredOk : Line → Bool
+gatheredOk l =
+    implies (any (on isGathered) (l .lane))
+    (every
+    (all (on isIdleOrGathered) (l .lane)
+    ∷ ltb (count (on isGathered) (l .lane)) (l .lanes)
+    ∷ fits (l .view) (l .capacity) (l .pointer) (gatheredTotal (l .lane))
+    ∷ []))
+
+-- "Busy lanes have a record left and regions that end at or below the pointer ..; a writer's records fit"
+abbrev pub regionEnd : Phase → ℕ
+regionEnd x = placeIn x .0 + leftIn x
+
+abbrev pub regionOk : Line → Phase → Bool
+regionOk l x =
+    implies (isBusy x)
+    (every (leb 1 (leftIn x) ∷ leb (regionEnd x) (l .pointer .0) ∷ implies (isWriting x) (fits (l .view) (l .capacity) (placeIn x) (leftIn x)) ∷ []))
+
+-- ".. and share no place"
+abbrev pub apart : Phase → Phase → Bool
+apart x y = implies (isBusy x && isBusy y) (leb (regionEnd x) (placeIn y .0) || leb (regionEnd y) (placeIn x .0))
+
+abbrev pub apartLanes : Lane → Lane → Bool
+apartLanes a b = apart (a .phase) (b .phase)
+
+abbrev pub busyOk : Line → Bool
+busyOk l = all (on (regionOk l)) (l .lane) && pairwise apartLanes (l .lane)
+
+-- "Entries past N are idle with flag 0"
+abbrev pub pastOk : Line → Bool
+pastOk l = all (on isIdle) (drop (l .lanes) (l .lane)) && all (eqb 0) (drop (l .lanes) (l .flag))
+
+unfoldable pub sound : Line → ℕ → Bool
+sound l buffer = every (numbersOk l buffer ∷ flagsOk l ∷ turnOk l ∷ gatheredOk l ∷ busyOk l ∷ pastOk l ∷ [])

@@ -1,0 +1,2 @@
+-- The definitions of document 01's "Next lane".
+pub mod NextLane
