@@ -14,8 +14,8 @@ use Rattle.sheet.specs.Text.{ascii}
 -- ---- numbers
 -- a number in decimal; `more` bounds the digits before the last
 unfoldable pub decimalIn : ℕ → ℕ → List ℕ
-decimalIn zero n = 48 + n % 10 ∷ []
-decimalIn (suc more) n = let front = decimalIn more (n / 10) in cond (ltb n 10) (48 + n ∷ []) (front ++ (48 + n % 10 ∷ []))
+decimalIn zero n = (48 + n % 10) ∷ []
+decimalIn (suc more) n = let front = decimalIn more (n / 10) in cond (ltb n 10) ((48 + n) ∷ []) (front ++ ((48 + n % 10) ∷ []))
 
 abbrev pub decimal : ℕ → List ℕ
 decimal n = decimalIn 20 n

@@ -1,0 +1,2 @@
+-- The claims about the definitions.
+pub mod ExampleSheet
