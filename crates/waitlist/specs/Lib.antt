@@ -1,2 +1,3 @@
 -- The definitions of document 01's "Next lane".
 pub mod NextLane
+pub mod Distance

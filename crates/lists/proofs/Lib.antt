@@ -1,0 +1,3 @@
+-- The laws on lists.
+pub mod Tests
+pub mod Counts
