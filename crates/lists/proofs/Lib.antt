@@ -1,3 +1,4 @@
 -- The laws on lists.
 pub mod Tests
 pub mod Counts
+pub mod Laws
