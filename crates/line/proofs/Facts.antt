@@ -17,7 +17,7 @@ use Rattle.view.specs.View.{fits, viewOk}
 use Rattle.line.specs.declared.Phase.{Phase}
 use Rattle.line.specs.declared.Lane.{Lane}
 use Rattle.line.specs.declared.Line.{Line}
-use Rattle.line.specs.Line.{flagFor, hasTurn, idleLane, isBusy, isGathered, isIdle, isIdleOrGathered, isWaiting, mostLanes, mostPointer, on, phaseAt}
+use Rattle.line.specs.Line.{flagFor, hasTurn, idleLane, isBusy, isGathered, isIdle, isIdleOrGathered, isWaiting, mostLanes, mostPointer, on, phaseAt, Shaped}
 use Rattle.line.specs.Sound.{apart, apartLanes, busyOk, flagsOk, gatheredOk, gatheredTotal, numbersOk, openNumbers, pastOk, regionOk, sound, turnOk, unopenedNumbers, valueOk}
 use Rattle.line.proofs.Phases.{apart-idle, apart-sym, idle-is, isUp, no-value, phase-kinds, up-kinds, up-one}
 
@@ -68,17 +68,31 @@ module _ (l : Line) (buffer : ℕ) where
   open-ok h n = rw (ne-eqb (l .lanes) 0 (λ z. omega arith)) (numbers-open n)
 
 -- ---- the lanes and flags of a sound line
-pub record Facts (l : Line) : Type 0 where
+-- what holds of each lane and each two lanes
+pub record Base (l : Line) : Type 0 where
   pub long : length (l .lane) ≡ mostLanes
+  pub blocks : length (l .view .block) ≡ 8
   pub few : l .lanes ≤ mostLanes
   pub flags : l .flag ≡ map (on flagFor) (l .lane)
-  pub one : count (on hasTurn) (l .lane) ≡ min 1 (count (on isUp) (l .lane))
-  pub values : all (on (valueOk (l .pointer))) (l .lane) ≡ true
-  pub gathered : 0 < count (on isGathered) (l .lane)
-      → (all (on isIdleOrGathered) (l .lane) ≡ true) × (count (on isGathered) (l .lane) < l .lanes) × (fits (l .view) (l .capacity) (l .pointer) (gatheredTotal (l .lane)) ≡ true)
   pub regions : all (on (regionOk l)) (l .lane) ≡ true
   pub disjoint : (i j : ℕ) → i ≢ j → apart (phaseAt l i) (phaseAt l j) ≡ true
   pub past : (j : ℕ) → l .lanes ≤ j → phaseAt l j ≡ Phase.Idle
+
+-- exactly one lane has the turn where a flag is up, and none else; its value is the pointer
+pub record Turn (l : Line) : Type 0 where
+  pub one : count (on hasTurn) (l .lane) ≡ min 1 (count (on isUp) (l .lane))
+  pub values : all (on (valueOk (l .pointer))) (l .lane) ≡ true
+
+-- where a lane is gathered
+pub record Gathering (l : Line) : Type 0 where
+  pub ready : all (on isIdleOrGathered) (l .lane) ≡ true
+  pub fewer : count (on isGathered) (l .lane) < l .lanes
+  pub room : fits (l .view) (l .capacity) (l .pointer) (gatheredTotal (l .lane)) ≡ true
+
+pub record Facts (l : Line) : Type 0 where
+  pub base : Base l
+  pub turn : Turn l
+  pub gathering : 0 < count (on isGathered) (l .lane) → Gathering l
 
 pub record Good (l : Line) (buffer : ℕ) : Type 0 where
   pub numbers : numbersOk l buffer ≡ true
@@ -101,11 +115,6 @@ up-split ls = count-split (on isUp) (on hasTurn) (on isWaiting) (λ x. up-kinds 
 no-turns : (l : Line) → count (on hasTurn) (l .lane) ≡ 0 → all (on (valueOk (l .pointer))) (l .lane) ≡ true
 no-turns l z = all-none (on hasTurn) (on (valueOk (l .pointer))) (λ x e. no-value (l .pointer) (x .phase) e) (l .lane) z
 
--- exactly one lane has the turn where a flag is up, and none else
-pub record Turn (l : Line) : Type 0 where
-  pub one : count (on hasTurn) (l .lane) ≡ min 1 (count (on isUp) (l .lane))
-  pub values : all (on (valueOk (l .pointer))) (l .lane) ≡ true
-
 turn-of : (l : Line) → l .flag ≡ map (on flagFor) (l .lane) → turnOk l ≡ true → Turn l
 turn-of l f e =
     by-test (any (eqb 1) (l .flag))
@@ -126,34 +135,35 @@ past-of l e j h =
     idle-is (phaseAt l j)
     (rw g at (all-getD (on isIdle) (drop (l .lanes) (l .lane)) (j - l .lanes) idleLane (and-left _ (all (eqb 0) (drop (l .lanes) (l .flag))) e) refl))
 
-gathered-of : (l : Line) → gatheredOk l ≡ true → 0 < count (on isGathered) (l .lane)
-    → (all (on isIdleOrGathered) (l .lane) ≡ true) × (count (on isGathered) (l .lane) < l .lanes) × (fits (l .view) (l .capacity) (l .pointer) (gatheredTotal (l .lane)) ≡ true)
+gathered-of : (l : Line) → gatheredOk l ≡ true → 0 < count (on isGathered) (l .lane) → Gathering l
 gathered-of l e h =
     let bs = all (on isIdleOrGathered) (l .lane) ∷ ltb (count (on isGathered) (l .lane)) (l .lanes) ∷ fits (l .view) (l .capacity) (l .pointer) (gatheredTotal (l .lane)) ∷ [] in
     let r : every bs ≡ true = implies-use (any (on isGathered) (l .lane)) (every bs) e (count-any (on isGathered) (l .lane) h) in
-    (every-nth bs 0 r, ltb-true (count (on isGathered) (l .lane)) (l .lanes) (every-nth bs 1 r), every-nth bs 2 r)
+    record { ready = every-nth bs 0 r; fewer = ltb-true (count (on isGathered) (l .lane)) (l .lanes) (every-nth bs 1 r); room = every-nth bs 2 r }
 
-pub good-of : (l : Line) (buffer : ℕ) → length (l .lane) ≡ mostLanes → sound l buffer ≡ true → Good l buffer
+pub good-of : (l : Line) (buffer : ℕ) → Shaped l → sound l buffer ≡ true → Good l buffer
 unfolding sound
-good-of l buffer len e =
+good-of l buffer shape e =
     let bs = numbersOk l buffer ∷ flagsOk l ∷ turnOk l ∷ gatheredOk l ∷ busyOk l ∷ pastOk l ∷ [] in
     let f = same-is (l .flag) (map (on flagFor) (l .lane)) (every-nth bs 1 e) in
-    let t = turn-of l f (every-nth bs 2 e) in
     let b = every-nth bs 4 e in
     record {
       numbers = every-nth bs 0 e;
       facts =
-          record {
-            long = len;
-            few = few-of l buffer (every-nth bs 0 e);
-            flags = f;
-            one = t .one;
-            values = t .values;
-            gathered = gathered-of l (every-nth bs 3 e);
-            regions = and-left (all (on (regionOk l)) (l .lane)) (pairwise apartLanes (l .lane)) b;
-            disjoint = pairwise-at apartLanes idleLane (λ x y. apart-sym (x .phase) (y .phase)) (λ x. apart-idle (x .phase)) (l .lane) (and-right (all (on (regionOk l)) (l .lane)) (pairwise apartLanes (l .lane)) b);
-            past = past-of l (every-nth bs 5 e);
-          };
+        record {
+          base =
+            record {
+              long = shape .lanes-length;
+              blocks = shape .blocks-length;
+              few = few-of l buffer (every-nth bs 0 e);
+              flags = f;
+              regions = and-left (all (on (regionOk l)) (l .lane)) (pairwise apartLanes (l .lane)) b;
+              disjoint = pairwise-at apartLanes idleLane (λ x y. apart-sym (x .phase) (y .phase)) (λ x. apart-idle (x .phase)) (l .lane) (and-right (all (on (regionOk l)) (l .lane)) (pairwise apartLanes (l .lane)) b);
+              past = past-of l (every-nth bs 5 e);
+            };
+          turn = turn-of l f (every-nth bs 2 e);
+          gathering = gathered-of l (every-nth bs 3 e);
+        };
     }
 
 -- ---- from the facts to the test
@@ -161,23 +171,23 @@ turn-ok : (l : Line) → Facts l → turnOk l ≡ true
 turn-ok l F =
     implies-from (any (eqb 1) (l .flag)) _
     (λ t. let u = any-count (eqb 1) (l .flag) t in
-    let c : count (on hasTurn) (l .lane) ≡ 1 = omega (arith, flags-up l (F .flags), F .one) in
-    and-both (eqb (count (on hasTurn) (l .lane)) 1) _ (eq-eqb (count (on hasTurn) (l .lane)) 1 c) (F .values))
+    let c : count (on hasTurn) (l .lane) ≡ 1 = omega (arith, flags-up l (F .base .flags), F .turn .one) in
+    and-both (eqb (count (on hasTurn) (l .lane)) 1) _ (eq-eqb (count (on hasTurn) (l .lane)) 1 c) (F .turn .values))
 
 gathered-ok : (l : Line) → Facts l → gatheredOk l ≡ true
 gathered-ok l F =
     implies-from (any (on isGathered) (l .lane)) _
-    (λ t. let r = F .gathered (any-count (on isGathered) (l .lane) t) in
-    rw (r .0, lt-ltb (count (on isGathered) (l .lane)) (l .lanes) (r .1), r .2))
+    (λ t. let r = F .gathering (any-count (on isGathered) (l .lane) t) in
+      rw (r .ready, lt-ltb (count (on isGathered) (l .lane)) (l .lanes) (r .fewer), r .room))
 
 flag-past : (l : Line) → Facts l → (j : ℕ) → l .lanes ≤ j → getD (l .flag) j 0 ≡ 0
-flag-past l F j h = rw (F .flags) (List·getD-map (on flagFor) (l .lane) j idleLane ∙ rw (F .past j h))
+flag-past l F j h = rw (F .base .flags) (List·getD-map (on flagFor) (l .lane) j idleLane ∙ rw (F .base .past j h))
 
 past-ok : (l : Line) → Facts l → pastOk l ≡ true
 past-ok l F =
     and-both _ _
     (all-from (on isIdle) (drop (l .lanes) (l .lane)) idleLane
-    (λ i h. rw (getD-drop (l .lanes) (l .lane) i idleLane, F .past (l .lanes + i) (omega arith))))
+    (λ i h. rw (getD-drop (l .lanes) (l .lane) i idleLane, F .base .past (l .lanes + i) (omega arith))))
     (all-from (eqb 0) (drop (l .lanes) (l .flag)) 0
     (λ i h. rw (getD-drop (l .lanes) (l .flag) i 0, flag-past l F (l .lanes + i) (omega arith))))
 
@@ -185,6 +195,6 @@ pub sound-of : (l : Line) (buffer : ℕ) → Good l buffer → sound l buffer �
 unfolding sound
 sound-of l buffer G =
     let F = G .facts in
-    let f : flagsOk l ≡ true = rw (F .flags) (is-same (map (on flagFor) (l .lane))) in
-    let b : busyOk l ≡ true = and-both _ _ (F .regions) (pairwise-from apartLanes (l .lane) idleLane (F .disjoint)) in
+    let f : flagsOk l ≡ true = rw (F .base .flags) (is-same (map (on flagFor) (l .lane))) in
+    let b : busyOk l ≡ true = and-both _ _ (F .base .regions) (pairwise-from apartLanes (l .lane) idleLane (F .base .disjoint)) in
     rw (G .numbers, f, turn-ok l F, gathered-ok l F, b, past-ok l F)

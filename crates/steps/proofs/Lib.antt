@@ -1,2 +1,5 @@
 -- The laws of a step.
 pub mod Lowest
+pub mod Cases
+pub mod Stored
+pub mod Release

@@ -1,0 +1,161 @@
+-- What an accepted step is, case by case, with its tests as facts. Later proofs have a clause for each case.
+use Prim.Native.Nat.{ℕ, zero, suc, _+_, _≤_, _<_}
+use mathlib.Core.Path.{_≡_, refl, sym, ap, _∙_, subst}
+use mathlib.Core.Bool.{Bool, true, false, cond, not, _&&_, _||_}
+use mathlib.Core.List.{List, [], _∷_}
+use native.Mathlib.Omega.{arith}
+use lib.ListN.{getD, length}
+use lib.IntN.{ℤ, pos, negsuc}
+use lib.Dec.{eqb, leb, ltb}
+use borrow.Author.Tests.{eqb-false, eqb-true, leb-false, leb-true, ltb-false, not-false, not-true}
+use Rattle.lists.specs.Lists.{all, any, count}
+use Rattle.lists.proofs.Tests.{and-both, and-left, and-right, both, by-test, clash}
+use Rattle.view.specs.View.{fits, place, viewOk}
+use Rattle.view.specs.declared.Place.{Place}
+use Rattle.line.specs.declared.Purpose.{Purpose}
+use Rattle.line.specs.declared.Phase.{Phase}
+use Rattle.line.specs.declared.Lane.{Lane}
+use Rattle.line.specs.Line.{holdsShared, holdsWhole, isGathered, isHolding, isIdle, isIdleOrGathered, isReading, isSharedRead, isSharedWrite, isWholeBook, isWoken, isWriting, leftIn, mostLanes, mostPointer, on, phaseAt, placeIn, purposeIn}
+use Rattle.line.specs.Sound.{gatheredTotal, sound}
+use Rattle.line.proofs.Phases.{holding-is, idle-is, reading-is, woken-is, writing-is}
+use Rattle.waitlist.specs.NextLane.{nextLane}
+use Rattle.event.specs.Event.{Call, cutShort, given}
+use Rattle.event.specs.declared.Blocks.{Blocks}
+use Rattle.event.specs.declared.Event.{Event}
+use Rattle.steps.specs.State.{Result, State, leaves}
+use Rattle.steps.specs.Effects.{Search, allEntered, effect, entered, enterStep, freeStep, lookStep, openStep, othersDown, purposeOf, putStep, readStep, receiveStep, seekStep, seekTarget, takeStep, viewOf, viewStep, wantStep, writeStep}
+use Rattle.steps.specs.Refusals.{allows, isOutside, noWakeYet, phaseOf}
+use Rattle.steps.specs.Step.{refuse, stepBy}
+use Rattle.steps.proofs.Lowest.{Decided, NotApplies, accepted, decided, refused}
+
+-- the step of call c from x; `search` finds the lane that a release wakes
+pub data Steps (search : Search) (x : State) : Call → Result → Type 0 where
+  refuses : {c : Call} (n : ℕ) → Steps search x c (refuse (suc n) x)
+  opens : (lanes capacity : ℕ) → x .line .lanes ≡ 0 → 1 ≤ lanes → lanes ≤ mostLanes → 8 ≤ capacity → capacity ≤ 65536 → capacity ≤ length (x .book)
+    → Steps search x (given (Event.Open lanes capacity)) (openStep x lanes capacity)
+  wants : (i purpose : ℕ) → i < x .line .lanes → phaseAt (x .line) i ≡ Phase.Idle → any (on isGathered) (x .line .lane) ≡ false
+    → Steps search x (given (Event.Want i purpose)) (wantStep x i (purposeOf purpose))
+  receives : (i : ℕ) (p : Purpose) (v : Place) → i < x .line .lanes → phaseAt (x .line) i ≡ Phase.Woken p v
+    → Steps search x (given (Event.Receive i)) (receiveStep x i (Phase.Woken p v))
+  take-writes : (i c : ℕ) (v : Place) → i < x .line .lanes → phaseAt (x .line) i ≡ Phase.Holding Purpose.SharedWrite v
+    → fits (x .line .view) (x .line .capacity) v c ≡ true
+    → Steps search x (given (Event.Take i c)) (takeStep search x i c (Phase.Holding Purpose.SharedWrite v))
+  take-reads : (i c : ℕ) (v : Place) → i < x .line .lanes → phaseAt (x .line) i ≡ Phase.Holding Purpose.SharedRead v → v .0 + c ≤ mostPointer
+    → Steps search x (given (Event.Take i c)) (takeStep search x i c (Phase.Holding Purpose.SharedRead v))
+  writes : (i content n : ℕ) (k : Place) → i < x .line .lanes → phaseAt (x .line) i ≡ Phase.BusyWriting n k
+    → Steps search x (given (Event.Write i content)) (writeStep x i content (Phase.BusyWriting n k))
+  reads : (i n : ℕ) (k : Place) → i < x .line .lanes → phaseAt (x .line) i ≡ Phase.BusyReading n k
+    → Steps search x (given (Event.Read i)) (readStep x i (Phase.BusyReading n k))
+  puts : (i : ℕ) (k : Place) (content : ℕ) (v : Place) → i < x .line .lanes → phaseAt (x .line) i ≡ Phase.Holding Purpose.WholeBook v
+    → fits (x .line .view) (x .line .capacity) k 1 ≡ true → Steps search x (given (Event.Put i k content)) (putStep x k content)
+  looks : (i : ℕ) (k v : Place) → i < x .line .lanes → phaseAt (x .line) i ≡ Phase.Holding Purpose.WholeBook v
+    → Steps search x (given (Event.Look i k)) (lookStep x k)
+  frees : (i : ℕ) (v : Place) → i < x .line .lanes → phaseAt (x .line) i ≡ Phase.Holding Purpose.WholeBook v
+    → Steps search x (given (Event.Free i)) (freeStep search x i)
+  enters : (i c : ℕ) → i < x .line .lanes → phaseAt (x .line) i ≡ Phase.Idle → all (on isIdleOrGathered) (x .line .lane) ≡ true
+    → fits (x .line .view) (x .line .capacity) (x .line .pointer) (gatheredTotal (entered (x .line) i c)) ≡ true
+    → Steps search x (given (Event.Enter i c)) (enterStep x i c)
+  views : (displacement extent used : ℕ) (blocks : Blocks) → 0 < x .line .lanes
+    → viewOk (x .line .capacity) (viewOf displacement extent used blocks) ≡ true → all (on isIdle) (x .line .lane) ≡ true
+    → Steps search x (given (Event.View displacement extent used blocks)) (viewStep x (viewOf displacement extent used blocks))
+  seeks : (whence : ℕ) (offset : ℤ) (n : ℕ) → 0 < x .line .lanes → seekTarget (x .line) whence offset ≡ pos n → n ≤ mostPointer → all (on isIdle) (x .line .lane) ≡ true
+    → Steps search x (given (Event.Seek whence offset)) (seekStep x (pos n))
+
+-- ---- from tests that fail to facts
+some : (n : ℕ) → eqb n 0 ≡ false → 0 < n
+some zero e = clash e
+some (suc n) e = omega arith
+
+-- a holder of a shared purpose holds it for writing or for reading
+module _ (search : Search) (x : State) (i c : ℕ) (inside : i < x .line .lanes) where
+  take-case : (p : Purpose) (v : Place) → phaseAt (x .line) i ≡ Phase.Holding p v → isWholeBook p ≡ false
+      → isSharedRead p && ltb mostPointer (v .0 + c) ≡ false → isSharedWrite p && not (fits (x .line .view) (x .line .capacity) v c) ≡ false
+      → Steps search x (given (Event.Take i c)) (takeStep search x i c (Phase.Holding p v))
+  take-case Purpose.SharedWrite v e w r f = take-writes i c v inside e (not-false _ f)
+  take-case Purpose.SharedRead v e w r f = take-reads i c v inside e (ltb-false mostPointer (v .0 + c) r)
+  take-case Purpose.WholeBook v e w r f = clash w
+
+pub holding-shared : (y : Phase) → holdsShared y ≡ true → (isHolding y ≡ true) × (isWholeBook (purposeIn y) ≡ false)
+holding-shared y h =
+    (and-left (isHolding y) (not (isWholeBook (purposeIn y))) h, not-true (isWholeBook (purposeIn y)) (and-right (isHolding y) (not (isWholeBook (purposeIn y))) h))
+
+whole-is : (p : Purpose) → isWholeBook p ≡ true → p ≡ Purpose.WholeBook
+whole-is Purpose.SharedWrite e = clash (sym e)
+whole-is Purpose.SharedRead e = clash (sym e)
+whole-is Purpose.WholeBook e = refl
+
+pub holding-whole : (y : Phase) → holdsWhole y ≡ true → y ≡ Phase.Holding Purpose.WholeBook (placeIn y)
+holding-whole y h =
+    holding-is y (and-left (isHolding y) (isWholeBook (purposeIn y)) h)
+    ∙ ap (λ (p : Purpose). Phase.Holding p (placeIn y)) (whole-is (purposeIn y) (and-right (isHolding y) (isWholeBook (purposeIn y)) h))
+
+-- a seek's target that is not outside
+inside-is : (z : ℤ) → isOutside z ≡ false → (n : ℕ) × (z ≡ pos n) × (n ≤ mostPointer)
+inside-is (pos n) e = (n, refl, ltb-false mostPointer n e)
+inside-is (negsuc n) e = clash e
+
+or-not : (a : Bool) → not a || false ≡ false → a ≡ true
+or-not true e = refl
+or-not false e = clash e
+
+-- the phase allows the call where neither 13 nor 14 applies
+allowed : (a w : Bool) → not a && not w ≡ false → w ≡ false → a ≡ true
+allowed true w e z = refl
+allowed false w e z = clash (rw z at e)
+
+module _ (search : Search) (x : State) where
+  allow : (e : Event) → ((n : ℕ) → NotApplies x (given e) n) → allows e (phaseOf x e) ≡ true
+  allow e f = allowed (allows e (phaseOf x e)) (noWakeYet x (given e)) (f 12) (f 13)
+
+  -- none of the reasons applies to the event
+  accepted-case : (e : Event) → ((n : ℕ) → NotApplies x (given e) n) → Steps search x (given e) (effect search x e)
+  accepted-case (Event.Open lanes capacity) f =
+      let a = not-false _ (f 5) in
+      let b = not-false _ (f 6) in
+      let c = and-left (leb 8 capacity && leb capacity 65536) (leb capacity (length (x .book))) b in
+      opens lanes capacity (eqb-true (x .line .lanes) 0 (not-false _ (f 4)))
+      (leb-true 1 lanes (and-left (leb 1 lanes) (leb lanes mostLanes) a)) (leb-true lanes mostLanes (and-right (leb 1 lanes) (leb lanes mostLanes) a))
+      (leb-true 8 capacity (and-left (leb 8 capacity) (leb capacity 65536) c)) (leb-true capacity 65536 (and-right (leb 8 capacity) (leb capacity 65536) c))
+      (leb-true capacity (length (x .book)) (and-right (leb 8 capacity && leb capacity 65536) (leb capacity (length (x .book))) b))
+  accepted-case (Event.Want i purpose) f = wants i purpose (leb-false (x .line .lanes) i (f 7)) (idle-is (phaseAt (x .line) i) (allow (Event.Want i purpose) f)) (f 11)
+  accepted-case (Event.Receive i) f =
+      let e = woken-is (phaseAt (x .line) i) (allow (Event.Receive i) f) in
+      subst (λ (y : Phase). Steps search x (given (Event.Receive i)) (receiveStep x i y)) (sym e)
+      (receives i (purposeIn (phaseAt (x .line) i)) (placeIn (phaseAt (x .line) i)) (leb-false (x .line .lanes) i (f 7)) e)
+  accepted-case (Event.Take i c) f =
+      let y = phaseAt (x .line) i in
+      let h = holding-shared y (allow (Event.Take i c) f) in
+      let e = holding-is y (h .0) in
+      subst (λ (z : Phase). Steps search x (given (Event.Take i c)) (takeStep search x i c z)) (sym e)
+      (take-case search x i c (leb-false (x .line .lanes) i (f 7)) (purposeIn y) (placeIn y) e (h .1) (f 14) (f 15))
+  accepted-case (Event.Write i content) f =
+      let e = writing-is (phaseAt (x .line) i) (allow (Event.Write i content) f) in
+      subst (λ (y : Phase). Steps search x (given (Event.Write i content)) (writeStep x i content y)) (sym e)
+      (writes i content (leftIn (phaseAt (x .line) i)) (placeIn (phaseAt (x .line) i)) (leb-false (x .line .lanes) i (f 7)) e)
+  accepted-case (Event.Read i) f =
+      let e = reading-is (phaseAt (x .line) i) (allow (Event.Read i) f) in
+      subst (λ (y : Phase). Steps search x (given (Event.Read i)) (readStep x i y)) (sym e)
+      (reads i (leftIn (phaseAt (x .line) i)) (placeIn (phaseAt (x .line) i)) (leb-false (x .line .lanes) i (f 7)) e)
+  accepted-case (Event.Put i k content) f =
+      puts i k content (placeIn (phaseAt (x .line) i)) (leb-false (x .line .lanes) i (f 7)) (holding-whole _ (allow (Event.Put i k content) f)) (not-false _ (f 15))
+  accepted-case (Event.Look i k) f =
+      looks i k (placeIn (phaseAt (x .line) i)) (leb-false (x .line .lanes) i (f 7)) (holding-whole _ (allow (Event.Look i k) f))
+  accepted-case (Event.Free i) f =
+      frees i (placeIn (phaseAt (x .line) i)) (leb-false (x .line .lanes) i (f 7)) (holding-whole _ (allow (Event.Free i) f))
+  accepted-case (Event.Enter i c) f =
+      enters i c (leb-false (x .line .lanes) i (f 7)) (idle-is _ (allow (Event.Enter i c) f)) (not-false _ (f 10)) (not-false _ (f 15))
+  accepted-case (Event.View displacement extent used blocks) f =
+      views displacement extent used blocks (some (x .line .lanes) (f 3)) (not-false _ (f 9)) (or-not (all (on isIdle) (x .line .lane)) (f 10))
+  accepted-case (Event.Seek whence offset) f =
+      let r = inside-is (seekTarget (x .line) whence offset) (f 14) in
+      subst (λ (z : ℤ). Steps search x (given (Event.Seek whence offset)) (seekStep x z)) (sym (r .1))
+      (seeks whence offset (r .0) (some (x .line .lanes) (f 3)) (r .1) (r .2) (or-not (all (on isIdle) (x .line .lane)) (f 10)))
+  accepted-case Event.Unlisted f = clash (f 1)
+
+  pub steps : (c : Call) → Steps search x c (stepBy search x c)
+  steps c = go c (decided search x c)
+    where
+      go : (c : Call) {r : Result} → Decided search x c r → Steps search x c r
+      go c (refused n w) = refuses n
+      go (given e) (accepted f) = accepted-case e f
+      go cutShort (accepted f) = clash (f 2)
