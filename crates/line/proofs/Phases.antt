@@ -35,6 +35,15 @@ one-up (Phase.BusyWriting n k) = refl
 one-up (Phase.BusyReading n k) = refl
 one-up (Phase.Gathered n) = refl
 
+pub flag-down : (x : Phase) → isUp x ≡ false → flagFor x ≡ 0
+flag-down Phase.Idle e = refl
+flag-down (Phase.Waiting p) e = clash e
+flag-down (Phase.Woken p v) e = clash e
+flag-down (Phase.Holding p v) e = clash e
+flag-down (Phase.BusyWriting n k) e = refl
+flag-down (Phase.BusyReading n k) e = refl
+flag-down (Phase.Gathered n) e = refl
+
 -- a phase is at most one of these
 pub phase-kinds : (x : Phase) → bit (isIdle x) + bit (isGathered x) + bit (isUp x) + bit (isBusy x) ≤ 1
 phase-kinds Phase.Idle = omega arith

@@ -3,3 +3,4 @@ pub mod Lowest
 pub mod Cases
 pub mod Stored
 pub mod Release
+pub mod Ordered
