@@ -150,20 +150,20 @@ good-of l buffer shape e =
     record {
       numbers = every-nth bs 0 e;
       facts =
-        record {
-          base =
-            record {
-              long = shape .lanes-length;
-              blocks = shape .blocks-length;
-              few = few-of l buffer (every-nth bs 0 e);
-              flags = f;
-              regions = and-left (all (on (regionOk l)) (l .lane)) (pairwise apartLanes (l .lane)) b;
-              disjoint = pairwise-at apartLanes idleLane (λ x y. apart-sym (x .phase) (y .phase)) (λ x. apart-idle (x .phase)) (l .lane) (and-right (all (on (regionOk l)) (l .lane)) (pairwise apartLanes (l .lane)) b);
-              past = past-of l (every-nth bs 5 e);
-            };
-          turn = turn-of l f (every-nth bs 2 e);
-          gathering = gathered-of l (every-nth bs 3 e);
-        };
+          record {
+            base =
+                record {
+                  long = shape .lanes-length;
+                  blocks = shape .blocks-length;
+                  few = few-of l buffer (every-nth bs 0 e);
+                  flags = f;
+                  regions = and-left (all (on (regionOk l)) (l .lane)) (pairwise apartLanes (l .lane)) b;
+                  disjoint = pairwise-at apartLanes idleLane (λ x y. apart-sym (x .phase) (y .phase)) (λ x. apart-idle (x .phase)) (l .lane) (and-right (all (on (regionOk l)) (l .lane)) (pairwise apartLanes (l .lane)) b);
+                  past = past-of l (every-nth bs 5 e);
+                };
+            turn = turn-of l f (every-nth bs 2 e);
+            gathering = gathered-of l (every-nth bs 3 e);
+          };
     }
 
 -- ---- from the facts to the test
@@ -178,7 +178,7 @@ gathered-ok : (l : Line) → Facts l → gatheredOk l ≡ true
 gathered-ok l F =
     implies-from (any (on isGathered) (l .lane)) _
     (λ t. let r = F .gathering (any-count (on isGathered) (l .lane) t) in
-      rw (r .ready, lt-ltb (count (on isGathered) (l .lane)) (l .lanes) (r .fewer), r .room))
+    rw (r .ready, lt-ltb (count (on isGathered) (l .lane)) (l .lanes) (r .fewer), r .room))
 
 flag-past : (l : Line) → Facts l → (j : ℕ) → l .lanes ≤ j → getD (l .flag) j 0 ≡ 0
 flag-past l F j h = rw (F .base .flags) (List·getD-map (on flagFor) (l .lane) j idleLane ∙ rw (F .base .past j h))

@@ -32,34 +32,34 @@ use Rattle.steps.proofs.Lowest.{Decided, NotApplies, accepted, decided,
 pub data Steps (search : Search) (x : State) : Call → Result → Type 0 where
   refuses : {c : Call} (n : ℕ) → Steps search x c (refuse (suc n) x)
   opens : (lanes capacity : ℕ) → x .line .lanes ≡ 0 → 1 ≤ lanes → lanes ≤ mostLanes → 8 ≤ capacity → capacity ≤ 65536 → capacity ≤ length (x .book)
-    → Steps search x (given (Event.Open lanes capacity)) (openStep x lanes capacity)
+      → Steps search x (given (Event.Open lanes capacity)) (openStep x lanes capacity)
   wants : (i purpose : ℕ) → i < x .line .lanes → phaseAt (x .line) i ≡ Phase.Idle → any (on isGathered) (x .line .lane) ≡ false
-    → Steps search x (given (Event.Want i purpose)) (wantStep x i (purposeOf purpose))
+      → Steps search x (given (Event.Want i purpose)) (wantStep x i (purposeOf purpose))
   receives : (i : ℕ) (p : Purpose) (v : Place) → i < x .line .lanes → phaseAt (x .line) i ≡ Phase.Woken p v
-    → Steps search x (given (Event.Receive i)) (receiveStep x i (Phase.Woken p v))
+      → Steps search x (given (Event.Receive i)) (receiveStep x i (Phase.Woken p v))
   take-writes : (i c : ℕ) (v : Place) → i < x .line .lanes → phaseAt (x .line) i ≡ Phase.Holding Purpose.SharedWrite v
-    → fits (x .line .view) (x .line .capacity) v c ≡ true
-    → Steps search x (given (Event.Take i c)) (takeStep search x i c (Phase.Holding Purpose.SharedWrite v))
+      → fits (x .line .view) (x .line .capacity) v c ≡ true
+      → Steps search x (given (Event.Take i c)) (takeStep search x i c (Phase.Holding Purpose.SharedWrite v))
   take-reads : (i c : ℕ) (v : Place) → i < x .line .lanes → phaseAt (x .line) i ≡ Phase.Holding Purpose.SharedRead v → v .0 + c ≤ mostPointer
-    → Steps search x (given (Event.Take i c)) (takeStep search x i c (Phase.Holding Purpose.SharedRead v))
+      → Steps search x (given (Event.Take i c)) (takeStep search x i c (Phase.Holding Purpose.SharedRead v))
   writes : (i content n : ℕ) (k : Place) → i < x .line .lanes → phaseAt (x .line) i ≡ Phase.BusyWriting n k
-    → Steps search x (given (Event.Write i content)) (writeStep x i content (Phase.BusyWriting n k))
+      → Steps search x (given (Event.Write i content)) (writeStep x i content (Phase.BusyWriting n k))
   reads : (i n : ℕ) (k : Place) → i < x .line .lanes → phaseAt (x .line) i ≡ Phase.BusyReading n k
-    → Steps search x (given (Event.Read i)) (readStep x i (Phase.BusyReading n k))
+      → Steps search x (given (Event.Read i)) (readStep x i (Phase.BusyReading n k))
   puts : (i : ℕ) (k : Place) (content : ℕ) (v : Place) → i < x .line .lanes → phaseAt (x .line) i ≡ Phase.Holding Purpose.WholeBook v
-    → fits (x .line .view) (x .line .capacity) k 1 ≡ true → Steps search x (given (Event.Put i k content)) (putStep x k content)
+      → fits (x .line .view) (x .line .capacity) k 1 ≡ true → Steps search x (given (Event.Put i k content)) (putStep x k content)
   looks : (i : ℕ) (k v : Place) → i < x .line .lanes → phaseAt (x .line) i ≡ Phase.Holding Purpose.WholeBook v
-    → Steps search x (given (Event.Look i k)) (lookStep x k)
+      → Steps search x (given (Event.Look i k)) (lookStep x k)
   frees : (i : ℕ) (v : Place) → i < x .line .lanes → phaseAt (x .line) i ≡ Phase.Holding Purpose.WholeBook v
-    → Steps search x (given (Event.Free i)) (freeStep search x i)
+      → Steps search x (given (Event.Free i)) (freeStep search x i)
   enters : (i c : ℕ) → i < x .line .lanes → phaseAt (x .line) i ≡ Phase.Idle → all (on isIdleOrGathered) (x .line .lane) ≡ true
-    → fits (x .line .view) (x .line .capacity) (x .line .pointer) (gatheredTotal (entered (x .line) i c)) ≡ true
-    → Steps search x (given (Event.Enter i c)) (enterStep x i c)
+      → fits (x .line .view) (x .line .capacity) (x .line .pointer) (gatheredTotal (entered (x .line) i c)) ≡ true
+      → Steps search x (given (Event.Enter i c)) (enterStep x i c)
   views : (displacement extent used : ℕ) (blocks : Blocks) → 0 < x .line .lanes
-    → viewOk (x .line .capacity) (viewOf displacement extent used blocks) ≡ true → all (on isIdle) (x .line .lane) ≡ true
-    → Steps search x (given (Event.View displacement extent used blocks)) (viewStep x (viewOf displacement extent used blocks))
+      → viewOk (x .line .capacity) (viewOf displacement extent used blocks) ≡ true → all (on isIdle) (x .line .lane) ≡ true
+      → Steps search x (given (Event.View displacement extent used blocks)) (viewStep x (viewOf displacement extent used blocks))
   seeks : (whence : ℕ) (offset : ℤ) (n : ℕ) → 0 < x .line .lanes → seekTarget (x .line) whence offset ≡ pos n → n ≤ mostPointer → all (on isIdle) (x .line .lane) ≡ true
-    → Steps search x (given (Event.Seek whence offset)) (seekStep x (pos n))
+      → Steps search x (given (Event.Seek whence offset)) (seekStep x (pos n))
 
 -- ---- from tests that fail to facts
 some : (n : ℕ) → eqb n 0 ≡ false → 0 < n

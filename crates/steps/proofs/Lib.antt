@@ -4,3 +4,4 @@ pub mod Cases
 pub mod Stored
 pub mod Release
 pub mod Ordered
+pub mod Keeps

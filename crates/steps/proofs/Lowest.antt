@@ -124,8 +124,11 @@ module _ (search : Search) (x : State) (c : Call) where
       go : {r : Result} → Decided search x c r → r ≡ refuse (suc n) x
       go (refused m u) =
           let z : m ≡ n =
-            elim (ℕ-discrete m n) [ yes e ↦ e | no k ↦
-              elim (decLt m n) [ yes h ↦ both (u .applies) (w .lower m h) | no h ↦ both (w .applies) (u .lower n (omega arith)) ] ] in
+          elim (ℕ-discrete m n) [
+            | yes e ↦ e
+            | no k ↦
+                elim (decLt m n) [ yes h ↦ both (u .applies) (w .lower m h) | no h ↦ both (w .applies) (u .lower n (omega arith)) ]
+          ] in
           ap (λ (k : ℕ). refuse (suc k) x) z
       go (accepted f) = both (w .applies) (f n)
 

@@ -148,8 +148,9 @@ module _ (l : Line) (F : Facts l) (i c : ℕ) (h : i < l .lanes) (e : phaseAt l 
   pub entered-most : count (on isGathered) (entered l i c) ≤ l .lanes
   entered-most =
       elim (decLt 0 (count (on isGathered) (l .lane))) [
-          yes p ↦ omega (arith, counted isGathered, F .gathering p .fewer)
-        | no p ↦ omega (arith, counted isGathered) ]
+        | yes p ↦ omega (arith, counted isGathered, F .gathering p .fewer)
+        | no p ↦ omega (arith, counted isGathered)
+      ]
 
   pub enter-facts : allEntered l (entered l i c) ≡ false → Facts (withLanes l (entered l i c))
   enter-facts q =
@@ -158,10 +159,10 @@ module _ (l : Line) (F : Facts l) (i c : ℕ) (h : i < l .lanes) (e : phaseAt l 
       record {
         base = entered-base;
         turn =
-          record {
-            one = omega (arith, entered-turn, entered-up);
-            values = all-none (on hasTurn) (on (valueOk (l .pointer))) (λ x t. no-value (l .pointer) (x .phase) t) (entered l i c) entered-turn;
-          };
+            record {
+              one = omega (arith, entered-turn, entered-up);
+              values = all-none (on hasTurn) (on (valueOk (l .pointer))) (λ x t. no-value (l .pointer) (x .phase) t) (entered l i c) entered-turn;
+            };
         gathering = λ g. record { ready = entered-ready; fewer = omega (arith, entered-most); room = room };
       }
 
@@ -182,20 +183,20 @@ module _ (l : Line) (F : Facts l) (i c : ℕ) (h : i < l .lanes) (e : phaseAt l 
     completed-facts =
         record {
           base =
-            record {
-              long = starts-length (l .pointer .0) (entered l i c) ∙ entered-base .long;
-              blocks = F .base .blocks;
-              few = F .base .few;
-              flags = completed-flags;
-              regions = starts-regions completed (l .pointer .0) (entered l i c) (omega arith) (λ a b u w. fits-part (l .capacity) (l .view) ok (F .base .blocks) (l .pointer .0) (gatheredTotal (entered l i c)) a b room u w);
-              disjoint = λ a b n. starts-disjoint (l .pointer .0) (entered l i c) a b n;
-              past = λ j p. starts-at (l .pointer .0) (entered l i c) j (entered-base .past j p);
-            };
+              record {
+                long = starts-length (l .pointer .0) (entered l i c) ∙ entered-base .long;
+                blocks = F .base .blocks;
+                few = F .base .few;
+                flags = completed-flags;
+                regions = starts-regions completed (l .pointer .0) (entered l i c) (omega arith) (λ a b u w. fits-part (l .capacity) (l .view) ok (F .base .blocks) (l .pointer .0) (gatheredTotal (entered l i c)) a b room u w);
+                disjoint = λ a b n. starts-disjoint (l .pointer .0) (entered l i c) a b n;
+                past = λ j p. starts-at (l .pointer .0) (entered l i c) j (entered-base .past j p);
+              };
           turn =
-            record {
-              one = omega (arith, none-of hasTurn refl (λ n v. refl), none-of isUp refl (λ n v. refl));
-              values = all-none (on hasTurn) (on (valueOk (completed .pointer))) (λ x t. no-value (completed .pointer) (x .phase) t) (completed .lane) (none-of hasTurn refl (λ n v. refl));
-            };
+              record {
+                one = omega (arith, none-of hasTurn refl (λ n v. refl), none-of isUp refl (λ n v. refl));
+                values = all-none (on hasTurn) (on (valueOk (completed .pointer))) (λ x t. no-value (completed .pointer) (x .phase) t) (completed .lane) (none-of hasTurn refl (λ n v. refl));
+              };
           gathering = λ g. absurd (omega (arith, none-of isGathered refl (λ n v. refl)));
         }
 

@@ -40,8 +40,9 @@ raised-up l B j =
 pub none-gathered : (l : Line) → Facts l → 0 < count (on isUp) (l .lane) → count (on isGathered) (l .lane) ≡ 0
 none-gathered l F u =
     elim (decLt 0 (count (on isGathered) (l .lane))) [
-        yes g ↦ absurd (omega (arith, kinds-count (l .lane), ready-length l (F .gathering g), F .base .long))
-      | no g ↦ omega arith ]
+      | yes g ↦ absurd (omega (arith, kinds-count (l .lane), ready-length l (F .gathering g), F .base .long))
+      | no g ↦ omega arith
+    ]
 
 -- lane i, in phase o with the turn, leaves for phase y, and the pointer becomes k
 pub record Leaving (l : Line) (i : ℕ) (o y : Phase) (k : Place) : Type 0 where
@@ -116,14 +117,16 @@ module _ (l : Line) (F : Facts l) (i : ℕ) (o y : Phase) (k : Place) (L : Leavi
       found : ((j : ℕ) × (j < length (placed l i y)) × (isUp ((getD (placed l i y) j idleLane) .phase) ≡ true)) → ⊥
       found r =
           elim (decLt (r .0) (l .lanes)) [
-              yes b ↦ both (raised-up between between-base (r .0) ∙ r .2) (next-none (l .lanes) (set (l .flag) i 0) i (L .inside) own-down q (r .0) b)
-            | no b ↦ let z : isUp ((getD (placed l i y) (r .0) idleLane) .phase) ≡ false = rw (between-base .past (r .0) (omega arith)) in both (r .2) z ]
+            | yes b ↦ both (raised-up between between-base (r .0) ∙ r .2) (next-none (l .lanes) (set (l .flag) i 0) i (L .inside) own-down q (r .0) b)
+            | no b ↦ let z : isUp ((getD (placed l i y) (r .0) idleLane) .phase) ≡ false = rw (between-base .past (r .0) (omega arith)) in both (r .2) z
+          ]
 
       none-up : count (on isUp) (placed l i y) ≡ 0
       none-up =
           elim (decLt 0 (count (on isUp) (placed l i y))) [
-              yes p ↦ absurd (found (count-find (on isUp) (placed l i y) idleLane p))
-            | no p ↦ omega arith ]
+            | yes p ↦ absurd (found (count-find (on isUp) (placed l i y) idleLane p))
+            | no p ↦ omega arith
+          ]
 
   -- ---- lane w is woken
   module _ (w : ℕ) (q : nextOf nextLane between i ≡ Wakes.Lane w) where
@@ -165,10 +168,10 @@ module _ (l : Line) (F : Facts l) (i : ℕ) (o y : Phase) (k : Place) (L : Leavi
         record {
           base = store-base between between-base w wakened k (set (l .flag) i 0) (next .inside) (omega arith) (flags-same between between-base w wakened (rw waits)) refl (λ j n. refl);
           turn =
-            record {
-              one = omega (arith, recounts hasTurn, recounts isUp, turn-none, some-up);
-              values = all-set (on (valueOk k)) (placed l i y) w (lane wakened) values-none (eq-eqb (k .0) (k .0) refl);
-            };
+              record {
+                one = omega (arith, recounts hasTurn, recounts isUp, turn-none, some-up);
+                values = all-set (on (valueOk k)) (placed l i y) w (lane wakened) values-none (eq-eqb (k .0) (k .0) refl);
+              };
           gathering = λ g. absurd (omega (arith, recounts isGathered, gathered-none));
         }
 

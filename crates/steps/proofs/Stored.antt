@@ -38,9 +38,9 @@ pub region-rises : (l : Line) (k : Place) → l .pointer .0 ≤ k .0 → (y : Ph
 region-rises l k h y e =
     implies-from (isBusy y) _
     (λ t. let bs = leb 1 (leftIn y) ∷ leb (regionEnd y) (l .pointer .0) ∷ implies (isWriting y) (fits (l .view) (l .capacity) (placeIn y) (leftIn y)) ∷ [] in
-      let r = implies-use (isBusy y) (every bs) e t in
-      let low = leb-true (regionEnd y) (l .pointer .0) (every-nth bs 1 r) in
-      rw (every-nth bs 0 r, le-leb (regionEnd y) (k .0) (omega arith), every-nth bs 2 r))
+    let r = implies-use (isBusy y) (every bs) e t in
+    let low = leb-true (regionEnd y) (l .pointer .0) (every-nth bs 1 r) in
+    rw (every-nth bs 0 r, le-leb (regionEnd y) (k .0) (omega arith), every-nth bs 2 r))
 
 pub other-phase : (l : Line) (i j : ℕ) (y : Phase) → j ≢ i → (getD (placed l i y) j idleLane) .phase ≡ phaseAt l j
 other-phase l i j y n = ap (λ (x : Lane). x .phase) (getD-set-other (l .lane) i j (lane y) idleLane n)
@@ -75,10 +75,12 @@ module _ (l : Line) (B : Base l) where
       disjoint : (a b : ℕ) → a ≢ b → apart ((getD (placed l i y) a idleLane) .phase) ((getD (placed l i y) b idleLane) .phase) ≡ true
       disjoint a b n =
           elim (ℕ-discrete a i) [
-              yes p ↦ let q : b ≢ i = λ z. n (p ∙ sym z) in rw (p, same-phase i y h, other-phase l i b y q) (away b q)
+            | yes p ↦ let q : b ≢ i = λ z. n (p ∙ sym z) in rw (p, same-phase i y h, other-phase l i b y q) (away b q)
             | no p ↦ elim (ℕ-discrete b i) [
-                yes q ↦ rw (q, same-phase i y h, other-phase l i a y p) (apart-sym y (phaseAt l a) (away a p))
-              | no q ↦ rw (other-phase l i a y p, other-phase l i b y q) (B .disjoint a b n) ] ]
+              | yes q ↦ rw (q, same-phase i y h, other-phase l i a y p) (apart-sym y (phaseAt l a) (away a p))
+              | no q ↦ rw (other-phase l i a y p, other-phase l i b y q) (B .disjoint a b n)
+            ]
+          ]
 
   -- the flags after a store: the lane's own with its phase, or all as they were where the new phase has the old one's flag
   pub flags-set : (i : ℕ) (y : Phase) (f : ℕ) → f ≡ flagFor y → set (l .flag) i f ≡ map (on flagFor) (placed l i y)
