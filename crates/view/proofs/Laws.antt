@@ -1,16 +1,16 @@
 -- Laws of the view rule: positions rise with places, and what follows for runs that fit.
 use Prim.Native.Nat.{ℕ, zero, suc, _+_, _-_, _*_, _/_, _%_, _≤_, _<_}
-use mathlib.Core.Path.{_≡_, refl, sym, ap, _∙_}
+use mathlib.Core.Path.{_≡_, refl, sym, ap}
 use mathlib.Core.Logic.{⊎-elim}
-use mathlib.Core.Bool.{Bool, true, false, cond, _&&_}
+use mathlib.Core.Bool.{true, _&&_}
 use mathlib.Core.List.{List, [], _∷_}
 use native.Mathlib.Omega.{arith}
 use native.Mathlib.Nat.{div-add-mod', mod-lt, mul-le-mul-left, mul-le-mul-right, suc-mul, eq-or-lt-of-le, le-div-iff-mul-le, div-mul-le-self}
 use lib.ListN.{length, take, drop}
-use lib.Dec.{leb, ltb, eqb}
+use lib.Dec.{leb, eqb}
 use borrow.Author.Tests.{leb-true, eqb-true, le-leb, lt-ltb, le-ltb}
-use Rattle.lists.specs.Lists.{all, every, sumOf}
-use Rattle.lists.proofs.Laws.{and-left, and-right, and-both, every-at, below-or-not, true-false}
+use Rattle.lists.specs.Lists.{all, sumOf}
+use Rattle.lists.proofs.Laws.{and-left, and-right, every-at, below-or-not, true-false}
 use Rattle.view.specs.declared.Block.{Block}
 use Rattle.view.specs.declared.Place.{Place}
 use Rattle.view.specs.declared.View.{View}
@@ -119,6 +119,7 @@ viewed capacity v h len =
 div-mono : (k l m : ℕ) → 0 < m → k < l → k / m ≤ l / m
 div-mono k l m some lt = le-div-iff-mul-le some .1 (omega (arith, div-mul-le-self k m))
 
+-- the length is asked for: a view with an empty list of blocks, which no array is, passes the rules and shows no record
 module _ (capacity : ℕ) (v : View) (ok : viewOk capacity v ≡ true) (len : length (v .block) ≡ 8) where
   facts : Viewed capacity v
   facts = viewed capacity v ok len
