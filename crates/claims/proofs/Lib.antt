@@ -1,2 +1,4 @@
 -- The proofs of the claims.
 pub mod ExampleSheet
+pub mod Seen
+pub mod Turn

@@ -184,3 +184,18 @@ module _ (l : Line) (F : Facts l) (i : ℕ) (o y : Phase) (k : Place) (L : Leavi
       go : (a : Wakes) → nextOf nextLane between i ≡ a → Facts (wake between a)
       go Wakes.None q = release-alone q
       go (Wakes.Lane w) q = rw (woken-is w q) (woken-facts w q)
+
+module _ (l : Line) (F : Facts l) (i : ℕ) (o y : Phase) (k : Place) (L : Leaving l i o y k) where
+  -- where nobody is woken no other lane is up
+  pub alone : nextOf nextLane (lowered l i y k) i ≡ Wakes.None → (j : ℕ) → j < l .lanes → j ≢ i → isUp (phaseAt l j) ≡ true → ⊥
+  alone q j h n u =
+      both (raised-up (lowered l i y k) (between-base l F i o y k L) j ∙ ap isUp (other-phase l i j y n) ∙ u)
+      (next-none (l .lanes) (set (l .flag) i 0) i (L .inside) (own-down l F i o y k L) q j h)
+
+  -- the lane that is woken has its wake under way, with the pointer that the release leaves
+  pub woken-now : (w : ℕ) (q : nextOf nextLane (lowered l i y k) i ≡ Wakes.Lane w)
+      → phaseAt (wake (lowered l i y k) (Wakes.Lane w)) w ≡ Phase.Woken (chosen l F i o y k L w q .purpose) k
+  unfolding chosen
+  woken-now w q =
+      ap (λ (t : Line). phaseAt t w) (woken-is l F i o y k L w q)
+      ∙ same-phase (lowered l i y k) (between-base l F i o y k L) w (Phase.Woken (chosen l F i o y k L w q .purpose) k) (chosen l F i o y k L w q .inside)

@@ -1,0 +1,166 @@
+-- What the bytes of a call and its answer show of the step that it made.
+use Prim.Native.Nat.{ℕ, zero, suc, _+_, _*_, _^_, _≤_, _<_}
+use mathlib.Core.Path.{_≡_, refl, sym, ap, _∙_, subst}
+use mathlib.Core.Logic.{_⊎_, inl, inr}
+use mathlib.Core.Bool.{Bool, true, false, cond, _&&_}
+use mathlib.Core.List.{List, [], _∷_}
+use native.Mathlib.Omega.{arith}
+use lib.ListN.{drop, getD, length, take}
+use lib.Dec.{leb}
+use borrow.Author.Tests.{leb-true}
+use Rattle.lists.proofs.Tests.{and-left, and-right, by-test, clash}
+use Rattle.waitlist.specs.NextLane.{nextLane}
+use Rattle.event.specs.BigEndian.{numberOf}
+use Rattle.event.specs.Event.{Call, bodyLength, callOf, cutShort, eventOf, fieldLengths, fieldsIn, given, isListed, kindOf}
+use Rattle.event.specs.declared.Event.{Event}
+use Rattle.steps.specs.Answer.{Said, saidBy}
+use Rattle.steps.specs.State.{Result, State}
+use Rattle.steps.specs.Step.{refuse, stepBy}
+use Rattle.steps.proofs.Cases.{Steps, refuses, steps}
+use Rattle.claims.specs.Demand3.{Entry, Given, callIn, entry, saidTo}
+
+-- ---- the fields of an event that an entry shows; the others are those of the bytes
+abbrev pub laneFrom : Event → ℕ → ℕ
+laneFrom (Event.Open lanes capacity) l = l
+laneFrom (Event.Want i p) l = i
+laneFrom (Event.Receive i) l = i
+laneFrom (Event.Take i c) l = i
+laneFrom (Event.Write i content) l = i
+laneFrom (Event.Read i) l = i
+laneFrom (Event.Put i k content) l = i
+laneFrom (Event.Look i k) l = i
+laneFrom (Event.Free i) l = i
+laneFrom (Event.Enter i c) l = i
+laneFrom (Event.View displacement extent used blocks) l = l
+laneFrom (Event.Seek whence offset) l = l
+laneFrom Event.Unlisted l = l
+
+abbrev pub purposeFrom : Event → ℕ → ℕ
+purposeFrom (Event.Open lanes capacity) q = q
+purposeFrom (Event.Want i p) q = p
+purposeFrom (Event.Receive i) q = q
+purposeFrom (Event.Take i c) q = q
+purposeFrom (Event.Write i content) q = q
+purposeFrom (Event.Read i) q = q
+purposeFrom (Event.Put i k content) q = q
+purposeFrom (Event.Look i k) q = q
+purposeFrom (Event.Free i) q = q
+purposeFrom (Event.Enter i c) q = q
+purposeFrom (Event.View displacement extent used blocks) q = q
+purposeFrom (Event.Seek whence offset) q = q
+purposeFrom Event.Unlisted q = q
+
+abbrev pub countFrom : Event → ℕ → ℕ
+countFrom (Event.Open lanes capacity) n = n
+countFrom (Event.Want i p) n = n
+countFrom (Event.Receive i) n = n
+countFrom (Event.Take i c) n = c
+countFrom (Event.Write i content) n = n
+countFrom (Event.Read i) n = n
+countFrom (Event.Put i k content) n = n
+countFrom (Event.Look i k) n = n
+countFrom (Event.Free i) n = n
+countFrom (Event.Enter i c) n = c
+countFrom (Event.View displacement extent used blocks) n = n
+countFrom (Event.Seek whence offset) n = n
+countFrom Event.Unlisted n = n
+
+-- the entry of an event, as its bytes show it
+abbrev pub entryOf : Event → Entry → Said → Entry
+entryOf e d said = record { kind = kindOf e; lane = laneFrom e (d .lane); purpose = purposeFrom e (d .purpose); count = countFrom e (d .count); said = said }
+
+-- ---- the kinds, one by one
+by-kind : (P : ℕ → Type 0) → P 1 → P 2 → P 3 → P 4 → P 5 → P 6 → P 7 → P 8 → P 9 → P 10 → P 11 → P 12 → (k : ℕ) → isListed k ≡ true → P k
+by-kind P a b c d e f g h i j l m zero t = clash (sym t)
+by-kind P a b c d e f g h i j l m (suc zero) t = a
+by-kind P a b c d e f g h i j l m (suc (suc zero)) t = b
+by-kind P a b c d e f g h i j l m (suc (suc (suc zero))) t = c
+by-kind P a b c d e f g h i j l m (suc (suc (suc (suc zero)))) t = d
+by-kind P a b c d e f g h i j l m (suc (suc (suc (suc (suc zero))))) t = e
+by-kind P a b c d e f g h i j l m (suc (suc (suc (suc (suc (suc zero)))))) t = f
+by-kind P a b c d e f g h i j l m (suc (suc (suc (suc (suc (suc (suc zero))))))) t = g
+by-kind P a b c d e f g h i j l m (suc (suc (suc (suc (suc (suc (suc (suc zero)))))))) t = h
+by-kind P a b c d e f g h i j l m (suc (suc (suc (suc (suc (suc (suc (suc (suc zero))))))))) t = i
+by-kind P a b c d e f g h i j l m (suc (suc (suc (suc (suc (suc (suc (suc (suc (suc zero)))))))))) t = j
+by-kind P a b c d e f g h i j l m (suc (suc (suc (suc (suc (suc (suc (suc (suc (suc (suc zero))))))))))) t = l
+by-kind P a b c d e f g h i j l m (suc (suc (suc (suc (suc (suc (suc (suc (suc (suc (suc (suc zero)))))))))))) t = m
+by-kind P a b c d e f g h i j l m (suc (suc (suc (suc (suc (suc (suc (suc (suc (suc (suc (suc (suc k))))))))))))) t =
+    let n : ℕ = suc (suc (suc (suc (suc (suc (suc (suc (suc (suc (suc (suc (suc k)))))))))))) in
+    absurd (omega (arith, leb-true n 12 (and-right (leb 1 n) (leb n 12) t)))
+
+-- a byte of the body is a field of one byte
+byte-at : (bytes : List ℕ) (j : ℕ) → j < length bytes → numberOf (take 1 (drop j bytes)) ≡ getD bytes j 0
+unfolding numberOf
+byte-at [] j h = absurd (omega arith)
+byte-at (b ∷ bs) zero h = omega arith
+byte-at (b ∷ bs) (suc j) h = byte-at bs j (omega arith)
+
+abbrev Shows : List ℕ → Said → ℕ → Type 0
+Shows bytes said k =
+    bodyLength k ≤ length bytes
+    → entry (record { kind = k; body = bytes }) said ≡ entryOf (eventOf k (fieldsIn (fieldLengths k) bytes)) (entry (record { kind = k; body = bytes }) said) said
+
+shows : (bytes : List ℕ) (said : Said) (k : ℕ) → isListed k ≡ true → Shows bytes said k
+unfolding fieldsIn
+shows bytes said k t =
+    by-kind (Shows bytes said)
+    (λ h. refl)
+    (λ h. rw (byte-at bytes 0 (omega arith), byte-at bytes 1 (omega arith)))
+    (λ h. rw (byte-at bytes 0 (omega arith)))
+    (λ h. rw (byte-at bytes 0 (omega arith)))
+    (λ h. rw (byte-at bytes 0 (omega arith)))
+    (λ h. rw (byte-at bytes 0 (omega arith)))
+    (λ h. rw (byte-at bytes 0 (omega arith)))
+    (λ h. rw (byte-at bytes 0 (omega arith)))
+    (λ h. rw (byte-at bytes 0 (omega arith)))
+    (λ h. rw (byte-at bytes 0 (omega arith)))
+    (λ h. refl)
+    (λ h. refl)
+    k t
+
+-- ---- from the call to its event
+pub shown : (g : Given) (said : Said) (e : Event) → callIn g ≡ given e → isListed (kindOf e) ≡ true → entry g said ≡ entryOf e (entry g said) said
+shown g said e q t =
+    by-test (isListed (g .kind))
+    (λ l. by-test (leb (bodyLength (g .kind)) (length (g .body)))
+      (λ h. let w : given (eventOf (g .kind) (fieldsIn (fieldLengths (g .kind)) (g .body))) ≡ given e = rw (l, h) at q in
+        let z : eventOf (g .kind) (fieldsIn (fieldLengths (g .kind)) (g .body)) ≡ e = cc in
+        rw z at (shows (g .body) said (g .kind) l (leb-true (bodyLength (g .kind)) (length (g .body)) h)))
+      (λ h. let w : cutShort ≡ given e = rw (l, h) at q in
+        let z : _≡_ {A = ℕ} 0 1 = cc in absurd (omega arith)))
+    (λ l. let w : given Event.Unlisted ≡ given e = rw l at q in
+      let z : Event.Unlisted ≡ e = cc in
+      clash (sym (ap (λ (v : Event). isListed (kindOf v)) z ∙ t)))
+
+listed-or : (e : Event) → (isListed (kindOf e) ≡ true) ⊎ (e ≡ Event.Unlisted)
+listed-or (Event.Open lanes capacity) = inl refl
+listed-or (Event.Want i p) = inl refl
+listed-or (Event.Receive i) = inl refl
+listed-or (Event.Take i c) = inl refl
+listed-or (Event.Write i content) = inl refl
+listed-or (Event.Read i) = inl refl
+listed-or (Event.Put i k content) = inl refl
+listed-or (Event.Look i k) = inl refl
+listed-or (Event.Free i) = inl refl
+listed-or (Event.Enter i c) = inl refl
+listed-or (Event.View displacement extent used blocks) = inl refl
+listed-or (Event.Seek whence offset) = inl refl
+listed-or Event.Unlisted = inr refl
+
+-- what is so of every refusal and of every event's entry is so of the entry that a call makes
+pub by-entry : (x : State) (g : Given) (P : Entry → Result → Type 0)
+    → ((d : Entry) (n : ℕ) → P (record { kind = d .kind; lane = d .lane; purpose = d .purpose; count = d .count; said = saidBy (refuse (suc n) x .answer) }) (refuse (suc n) x))
+    → ((e : Event) (d : Entry) (r : Result) → Steps nextLane x (given e) r → P (entryOf e d (saidBy (r .answer))) r)
+    → P (entry g (saidTo nextLane x g)) (stepBy nextLane x (callIn g))
+by-entry x g P refusal event = go (callIn g) refl (steps nextLane x (callIn g))
+  where
+    unlisted : {r : Result} → Steps nextLane x (given Event.Unlisted) r → P (entry g (saidBy (r .answer))) r
+    unlisted (refuses n) = refusal (entry g (saidBy (refuse (suc n) x .answer))) n
+
+    listed : (e : Event) (r : Result) → callIn g ≡ given e → (isListed (kindOf e) ≡ true) ⊎ (e ≡ Event.Unlisted) → Steps nextLane x (given e) r → P (entry g (saidBy (r .answer))) r
+    listed e r q (inl t) s = subst (λ (d : Entry). P d r) (sym (shown g (saidBy (r .answer)) e q t)) (event e (entry g (saidBy (r .answer))) r s)
+    listed e r q (inr z) s = unlisted (subst (λ (v : Event). Steps nextLane x (given v) r) z s)
+
+    go : (c : Call) {r : Result} → callIn g ≡ c → Steps nextLane x c r → P (entry g (saidBy (r .answer))) r
+    go (given e) {r} q s = listed e r q (listed-or e) s
+    go cutShort q (refuses n) = refusal (entry g (saidBy (refuse (suc n) x .answer))) n

@@ -1,0 +1,266 @@
+-- Demand 3 as one claim about every list of calls: what a reader must believe, and no proof. docs/DEMAND3.md goes through it.
+use Prim.Native.Nat.{ℕ, zero, suc, _+_, _-_, _≤_, _<_}
+use mathlib.Core.Path.{_≡_}
+use mathlib.Core.Bool.{Bool, true, false, cond, not, _&&_, _||_}
+use mathlib.Core.List.{List, [], _∷_, _++_, map}
+use lib.ListN.{drop, getD, length, take}
+use lib.Dec.{eqb, leb}
+use Rattle.lists.specs.Lists.{any, count, sumOf}
+use Rattle.line.specs.Line.{unopened}
+use Rattle.line.specs.declared.Purpose.{Purpose}
+use Rattle.waitlist.specs.Distance.{distance}
+use Rattle.waitlist.specs.NextLane.{nextLane}
+use Rattle.event.specs.BigEndian.{numberOf}
+use Rattle.event.specs.Event.{Call, callOf}
+use Rattle.steps.specs.Answer.{Said, saidBy}
+use Rattle.steps.specs.State.{Result, State}
+use Rattle.steps.specs.Effects.{Search, purposeOf}
+use Rattle.steps.specs.Step.{afterBy, stepBy}
+
+-- ---- lists of calls
+-- a call is a kind and body bytes: any kind, unlisted ones too; any bytes, cut short or too long too
+pub record Given : Type 0 where
+  pub kind : ℕ
+  pub body : List ℕ
+
+abbrev pub callIn : Given → Call
+callIn g = callOf (g .kind) (g .body)
+
+-- "Its list starts with an unopened line and a lent buffer of any length and any bytes"
+abbrev pub start : List ℕ → State
+start book = record { line = unopened; book = book }
+
+-- the line and the buffer as a list of calls leaves them. `search` is how a release finds the lane to wake: `nextLane`
+abbrev pub afterAll : Search → State → List Given → State
+afterAll search x gs = afterBy search x (map callIn gs)
+
+abbrev pub saidTo : Search → State → Given → Said
+saidTo search x g = saidBy (stepBy search x (callIn g) .answer)
+
+-- a call and what its answer says. The body's first byte is the lane of a call that names one; the second is the purpose of a want, or
+-- the second and third are the count of a take or an enter
+pub record Entry : Type 0 where
+  pub kind : ℕ
+  pub lane : ℕ
+  pub purpose : ℕ
+  pub count : ℕ
+  pub said : Said
+
+abbrev pub entry : Given → Said → Entry
+entry g said = record { kind = g .kind; lane = getD (g .body) 0 0; purpose = getD (g .body) 1 0; count = numberOf (take 2 (drop 1 (g .body))); said = said }
+
+unfoldable pub entries : Search → State → List Given → List Entry
+entries search x [] = []
+entries search x (g ∷ gs) = entry g (saidTo search x g) ∷ entries search (stepBy search x (callIn g) .after) gs
+
+-- ---- what is read off a call and its answer
+abbrev pub isAccepted : ℕ → Entry → Bool
+isAccepted kind e = e .said .accepted && eqb (e .kind) kind
+
+abbrev pub value : ℕ → Entry → ℕ
+value k e = getD (e .said .values) k 0
+
+abbrev pub hasValues : Entry → Bool
+hasValues e = leb 1 (length (e .said .values))
+
+-- an accepted want or receive by lane i
+abbrev pub wantsBy : ℕ → Entry → Bool
+wantsBy i e = isAccepted 0x02 e && eqb (e .lane) i
+
+abbrev pub receivesBy : ℕ → Entry → Bool
+receivesBy i e = isAccepted 0x03 e && eqb (e .lane) i
+
+-- "Releases are accepted 04 and 09"
+abbrev pub isRelease : Entry → Bool
+isRelease e = isAccepted 0x04 e || isAccepted 0x09 e
+
+-- "A lane is told to wait by the answer waits to its want": the answer waits has no value, holds has one
+abbrev pub tellsToWait : ℕ → Entry → Bool
+tellsToWait i e = wantsBy i e && not (hasValues e)
+
+-- "which an accepted release does by answering wakes with its number": the values after start and count, of 09 all of them
+abbrev pub wokenBy : Entry → List ℕ
+wokenBy e = cond (isAccepted 0x04 e) (drop 2 (e .said .values)) (cond (isAccepted 0x09 e) (e .said .values) [])
+
+abbrev pub wakes : ℕ → Entry → Bool
+wakes i e = any (eqb i) (wokenBy e)
+
+-- an opening, a change of view or a seek
+abbrev pub isReset : Entry → Bool
+isReset e = isAccepted 0x01 e || isAccepted 0x0B e || isAccepted 0x0C e
+
+-- N, by the answer to the opening; 0 before it
+unfoldable pub lanesIn : ℕ → List Entry → ℕ
+lanesIn n [] = n
+lanesIn n (e ∷ es) = lanesIn (cond (isAccepted 0x01 e) (value 0 e) n) es
+
+-- ---- how a lane stands
+pub data Standing : Type 0 where
+  -- none of these
+  off : Standing
+  -- told to wait and its wake not sent; its wake under way; holding
+  waiting woken holding : Purpose → Standing
+
+abbrev pub purposeFor : Standing → Purpose
+purposeFor off = Purpose.SharedWrite
+purposeFor (waiting p) = p
+purposeFor (woken p) = p
+purposeFor (holding p) = p
+
+-- "It waits from there until its wake is sent". "The wake is under way until the lane's accepted 03". "A lane holds from the answer holds .. until its accepted release"
+abbrev pub standNext : ℕ → Standing → Entry → Standing
+standNext i s e =
+    cond (wantsBy i e) (cond (tellsToWait i e) (waiting (purposeOf (e .purpose))) (holding (purposeOf (e .purpose))))
+    (cond (receivesBy i e) (holding (purposeFor s))
+    (cond (isRelease e && eqb (e .lane) i) off
+    (cond (wakes i e) (woken (purposeFor s))
+    s)))
+
+unfoldable pub stand : ℕ → Standing → List Entry → Standing
+stand i s [] = s
+stand i s (e ∷ es) = stand i (standNext i s e) es
+
+abbrev pub isWaiting : Standing → Bool
+isWaiting off = false
+isWaiting (waiting p) = true
+isWaiting (woken p) = false
+isWaiting (holding p) = false
+
+-- holding, or its wake under way
+abbrev pub hasTurn : Standing → Bool
+hasTurn off = false
+hasTurn (waiting p) = false
+hasTurn (woken p) = true
+hasTurn (holding p) = true
+
+-- h is the one lane that holds or is being woken after these entries
+pub record OnlyTurn (es : List Entry) (h : ℕ) : Type 0 where
+  pub has : hasTurn (stand h off es) ≡ true
+  pub only : (j : ℕ) → hasTurn (stand j off es) ≡ true → j ≡ h
+
+-- the call by which lane h goes on: "03 while the wake is under way; 04 with count 0 by a holder of purpose 0 or 1; 09 by one of purpose 2"
+abbrev pub release : ℕ → Purpose → Given
+release h Purpose.SharedWrite = record { kind = 0x04; body = h ∷ 0 ∷ 0 ∷ [] }
+release h Purpose.SharedRead = record { kind = 0x04; body = h ∷ 0 ∷ 0 ∷ [] }
+release h Purpose.WholeBook = record { kind = 0x09; body = h ∷ [] }
+
+abbrev pub onward : ℕ → Standing → Given
+onward h off = record { kind = 0; body = [] }
+onward h (waiting p) = record { kind = 0; body = [] }
+onward h (woken p) = record { kind = 0x03; body = h ∷ [] }
+onward h (holding p) = release h p
+
+-- ---- the places handed out
+-- `count` places from `from` on, to one lane
+pub record Grant : Type 0 where
+  pub lane : ℕ
+  pub from : ℕ
+  pub count : ℕ
+
+pub record Handed : Type 0 where
+  pub lane : ℕ
+  pub place : ℕ
+
+-- an accepted 0A, with its lane and count
+pub record Entered : Type 0 where
+  pub lane : ℕ
+  pub count : ℕ
+
+-- the count of lane r among the accepted 0A since the last completed ordered call
+unfoldable pub countFor : List Entered → ℕ → ℕ
+countFor [] r = 0
+countFor (n ∷ ns) r = cond (eqb (n .lane) r) (n .count) (countFor ns r)
+
+-- "to each lane r, from lane 0 up, as many places as r's count, from the pointer before plus the counts of lanes below r"
+unfoldable pub shares : List Entered → ℕ → ℕ → ℕ → List Grant
+shares ns r from zero = []
+shares ns r from (suc more) = record { lane = r; from = from; count = countFor ns r } ∷ shares ns (suc r) (from + countFor ns r) more
+
+abbrev pub enteredBy : Entry → Entered
+enteredBy e = record { lane = e .lane; count = e .count }
+
+-- the 0A that completes an ordered call: its answer has values, those of the others have none
+abbrev pub completes : Entry → Bool
+completes e = isAccepted 0x0A e && hasValues e
+
+-- the accepted 0A after one more entry
+abbrev pub enteredNext : List Entered → Entry → List Entered
+enteredNext ns e = cond (completes e) [] (cond (isAccepted 0x0A e) (enteredBy e ∷ ns) ns)
+
+-- "An accepted 04 hands out its region's places, rising, to its lane. The 0A that completes an ordered call hands out .."; n is N
+abbrev pub grantsBy : ℕ → List Entered → Entry → List Grant
+grantsBy n ns e =
+    cond (isAccepted 0x04 e) (record { lane = e .lane; from = value 0 e; count = value 1 e } ∷ [])
+    (cond (completes e) (shares (enteredBy e ∷ ns) 0 (value 0 e) n) [])
+
+unfoldable pub grants : ℕ → List Entered → List Entry → List Grant
+grants n ns [] = []
+grants n ns (e ∷ es) = grantsBy n ns e ++ grants n (enteredNext ns e) es
+
+-- the places of a grant, rising, each with its lane
+unfoldable pub handTo : ℕ → ℕ → ℕ → List Handed
+handTo lane from zero = []
+handTo lane from (suc count) = record { lane = lane; place = from } ∷ handTo lane (suc from) count
+
+unfoldable pub handed : List Grant → List Handed
+handed [] = []
+handed (g ∷ gs) = handTo (g .lane) (g .from) (g .count) ++ handed gs
+
+-- first, first + 1, .. : as many as `count`
+unfoldable pub range : ℕ → ℕ → List ℕ
+range first zero = []
+range first (suc count) = first ∷ range (suc first) count
+
+-- ---- the claim
+module _ (search : Search) (book : List ℕ) where
+  -- the entries of a list from the start, and of a stretch `later` after the calls `early`
+  abbrev pub entriesOf : List Given → List Entry
+  entriesOf early = entries search (start book) early
+
+  abbrev pub entriesAfter : List Given → List Given → List Entry
+  entriesAfter early later = entries search (afterAll search (start book) early) later
+
+  -- one call after the calls `early`, with what its answer says
+  abbrev pub entryAfter : List Given → Given → Entry
+  entryAfter early g = entry g (saidTo search (afterAll search (start book) early) g)
+
+  abbrev pub pointerAfter : List Given → ℕ
+  pointerAfter early = afterAll search (start book) early .line .pointer .0
+
+  -- lane i was told to wait by the last of the calls `early`; `later` are the calls that follow, as far as they are looked at
+  pub record WaitEnds (i : ℕ) (early later : List Given) : Type 0 where
+    -- the lane then holding or being woken
+    pub holder : ℕ
+    pub one : OnlyTurn (entriesOf early) holder
+    -- no later than at the d-th accepted release its wake is sent
+    pub sent : distance (lanesIn 0 (entriesOf early)) holder i ≤ count isRelease (entriesAfter early later) → 1 ≤ count (wakes i) (entriesAfter early later)
+    -- no second one before its next accepted want
+    pub single : count (wantsBy i) (entriesAfter early later) ≡ 0 → count (wakes i) (entriesAfter early later) ≤ 1
+    -- until its wake each other lane is woken at most once
+    pub fair : count (wakes i) (entriesAfter early later) ≡ 0 → (j : ℕ) → count (wakes j) (entriesAfter early later) ≤ 1
+
+  -- after the calls `early` a lane waits: exactly one lane holds or is being woken, and its next call would be accepted
+  pub record GoesOn (early : List Given) : Type 0 where
+    pub holder : ℕ
+    pub one : OnlyTurn (entriesOf early) holder
+    pub next : saidTo search (afterAll search (start book) early) (onward holder (stand holder off (entriesOf early))) .accepted ≡ true
+
+  -- the places handed out by `later`, after `early`, which ends with an opening, a change of view or a seek
+  pub record InOrder (early later : List Given) : Type 0 where
+    pub places : map (λ (h : Handed). h .place) (handed (grants (lanesIn 0 (entriesOf early)) [] (entriesAfter early later))) ≡ range (pointerAfter early) (pointerAfter (early ++ later) - pointerAfter early)
+    pub last : pointerAfter (early ++ later) ≡ pointerAfter early + sumOf (λ (g : Grant). g .count) (grants (lanesIn 0 (entriesOf early)) [] (entriesAfter early later))
+
+  pub record Demand3 (calls : List Given) : Type 0 where
+    -- whenever a lane i is told to wait, by the answer to the call `told`
+    pub waits-end : (early later rest : List Given) (told : Given) (i : ℕ) → calls ≡ (early ++ told ∷ []) ++ (later ++ rest)
+      → tellsToWait i (entryAfter early told) ≡ true → WaitEnds i (early ++ told ∷ []) later
+    -- at each point of the list, while any lane waits
+    pub goes-on : (early rest : List Given) (i : ℕ) → calls ≡ early ++ rest → isWaiting (stand i off (entriesOf early)) ≡ true → GoesOn early
+    -- from an opening, seek or change of view to the next of these or the list's end
+    pub in-order : (early later rest : List Given) (first : Given) → calls ≡ (early ++ first ∷ []) ++ (later ++ rest)
+      → isReset (entryAfter early first) ≡ true → count isReset (entriesAfter (early ++ first ∷ []) later) ≡ 0
+      → InOrder (early ++ first ∷ []) later
+
+-- of the line's own search
+abbrev pub DemandThree : Type 0
+DemandThree = (book : List ℕ) (calls : List Given) → Demand3 nextLane book calls
