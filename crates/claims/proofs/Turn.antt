@@ -1,5 +1,5 @@
 -- What a step does while a lane waits: nothing, or it wakes that lane, or it wakes one that is nearer to it. And a lane that does not wait.
-use Prim.Native.Nat.{ℕ, zero, suc, _+_, _≤_, _<_}
+use Prim.Native.Nat.{ℕ, zero, suc, _+_, _-_, _≤_, _<_}
 use mathlib.Core.Path.{_≡_, refl, sym, ap, _∙_, subst}
 use mathlib.Core.Logic.{_≢_, _⊎_, inl, inr}
 use mathlib.Core.Bool.{Bool, true, false, cond, not, _&&_, _||_, or-false}
@@ -31,8 +31,8 @@ use Rattle.steps.specs.Answer.{Said, saidBy}
 use Rattle.steps.specs.State.{Result, State, withPhase}
 use Rattle.steps.specs.Effects.{allEntered, entered, lowered, nextOf, oneLess, othersDown, purposeOf, reading, recordAt, released, started, startedAt, wake, woken, writing}
 use Rattle.steps.proofs.Cases.{Steps, enters, frees, looks, opens, puts, reads, receives, refuses, seeks, take-reads, take-writes, views, wants, writes}
-use Rattle.steps.proofs.Keeps.{GoodState, free-leaving, others-none, take-reads-leaving, take-writes-leaving}
-use Rattle.steps.proofs.Ordered.{busy-by}
+use Rattle.steps.proofs.Keeps.{GoodState, free-leaving, fresh-idle, others-none, take-reads-leaving, take-writes-leaving}
+use Rattle.steps.proofs.Ordered.{busy-by, entered-all, started-fails}
 use Rattle.steps.proofs.Release.{Chosen, Leaving, alone, chosen, woken-now}
 use Rattle.steps.proofs.Stored.{kinds-count, other-phase, placed, ready-count, same-phase, short}
 use Rattle.claims.specs.Demand3.{Entry, isRelease, wakes, wantsBy, wokenBy}
@@ -160,3 +160,105 @@ module _ (x : State) (G : GoodState x) (i h : ℕ) (wi : isWaiting (phaseAt (x .
 
           there : (j : ℕ) → j ≢ w → phaseAt (wake (lowered (x .line) k y q) (Wakes.Lane w)) j ≡ phaseAt (lowered (x .line) k y q) j
           there j n = other-phase (lowered (x .line) k y q) w j (woken q (phaseAt (lowered (x .line) k y q) w)) n
+
+  -- an ordered call, a change of view or a seek needs that no flag is up
+  none-ready : all (on isIdleOrGathered) (x .line .lane) ≡ true → ⊥
+  none-ready e = omega (arith, some-up, kinds-count (x .line .lane), ready-count (x .line .lane) e)
+
+  none-idle : all (on isIdle) (x .line .lane) ≡ true → ⊥
+  none-idle e = omega (arith, some-up, kinds-count (x .line .lane), all-count (on isIdle) (x .line .lane) e)
+
+  pub turn : (e : Event) (d : Entry) (r : Result) → Steps nextLane x (given e) r → Turn x i h (entryOf e d (saidBy (r .answer))) r
+  turn e d r (refuses n) = calm refl (λ j. refl) refl wi th
+  turn e d r (opens lanes capacity z a b c f g) = absurd (omega (arith, inside))
+  turn e d r (wants j p hj q g) =
+      at-test (λ (t : Result). Turn x i h (entryOf (Event.Want j p) d (saidBy (t .answer))) t) (othersDown (x .line) j) _ _
+      (λ t. absurd (omega (arith, some-up, others-none (x .line) (G .facts) j hj q t)))
+      (λ t. let k = kept j Phase.Idle (Phase.Waiting (purposeOf p)) q refl refl in calm refl (λ m. refl) refl (k .0) (k .1))
+  turn e d r (receives j p v hj q) =
+      calm refl (λ m. refl) refl (rw (other-phase (x .line) j i (Phase.Holding p v) (differ isWaiting (x .line) i j (Phase.Woken p v) q refl wi)) wi)
+      (let z : h ≡ j = same-turn (x .line) (G .facts) h j th (rw q) in rw (z, same-phase (x .line) (G .facts .base) j (Phase.Holding p v) hj))
+  turn e d r (take-writes j c v hj q f) =
+      leaves-turn _ _ j (Phase.Holding Purpose.SharedWrite v) (writing c v) (place (v .0 + c)) refl refl refl refl (take-writes-leaving (x .line) (G .facts) j c v hj q f)
+  turn e d r (take-reads j c v hj q f) =
+      leaves-turn _ _ j (Phase.Holding Purpose.SharedRead v) (reading c v) (place (v .0 + c)) refl refl refl refl (take-reads-leaving (x .line) (G .facts) j c v hj q)
+  turn e d r (writes j content n k hj q) =
+      let m = kept j (Phase.BusyWriting n k) (oneLess (Phase.BusyWriting n k)) q refl refl in calm refl (λ m. refl) refl (m .0) (m .1)
+  turn e d r (reads j n k hj q) =
+      let m = kept j (Phase.BusyReading n k) (oneLess (Phase.BusyReading n k)) q refl refl in
+      by-test (leb (recordEnd (x .line .view) k) (x .line .size)) (λ t. rw t (calm refl (λ m. refl) refl (m .0) (m .1))) (λ t. rw t (calm refl (λ m. refl) refl (m .0) (m .1)))
+  turn e d r (puts j k content v hj q f) = calm refl (λ m. refl) refl wi th
+  turn e d r (looks j k v hj q) =
+      by-test (leb (recordEnd (x .line .view) k) (x .line .size)) (λ t. rw t (calm refl (λ m. refl) refl wi th)) (λ t. rw t (calm refl (λ m. refl) refl wi th))
+  turn e d r (frees j v hj q) =
+      leaves-turn _ _ j (Phase.Holding Purpose.WholeBook v) Phase.Idle (x .line .pointer) refl refl refl refl (free-leaving (x .line) (G .facts) j v hj q)
+  turn e d r (enters j c hj q g f) = absurd (none-ready g)
+  turn e d r (views displacement extent used blocks z o g) = absurd (none-idle g)
+  turn e d r (seeks whence offset n z t m g) = absurd (none-idle g)
+
+-- ---- a lane that does not wait is not woken, and comes to wait only by its own accepted want
+pub record Rests (i : ℕ) (e : Entry) (r : Result) : Type 0 where
+  pub unwoken : wakes i e ≡ false
+  pub unwaiting : (wantsBy i e ≡ true) ⊎ (isWaiting (phaseAt (r .after .line) i) ≡ false)
+
+-- a phase after a take or a record used up
+busy-waits : (n : ℕ) (y : Phase) → isWaiting y ≡ false → isWaiting (cond (eqb n 0) Phase.Idle y) ≡ false
+busy-waits n y e = busy-by (λ (z : Phase). isWaiting z ≡ false) n y (λ z. refl) (λ z. e)
+
+module _ (x : State) (G : GoodState x) (i : ℕ) (wi : isWaiting (phaseAt (x .line) i) ≡ false) where
+  -- another phase that does not wait, for any lane
+  stays : (k : ℕ) (y : Phase) → isWaiting y ≡ false → isWaiting ((getD (placed (x .line) k y) i idleLane) .phase) ≡ false
+  stays k y e = set-keeps (on isWaiting) false (x .line .lane) k i (lane y) idleLane e wi
+
+  leaves-rests : (e : Entry) (a : Result) (k : ℕ) (o y : Phase) (q : Place) → wokenBy e ≡ wakesValues (nextOf nextLane (lowered (x .line) k y q) k)
+      → a .after .line ≡ released nextLane (lowered (x .line) k y q) k → isWaiting y ≡ false → Leaving (x .line) k o y q → Rests i e a
+  leaves-rests e a k o y q wv al yw L = go (nextOf nextLane (lowered (x .line) k y q) k) refl
+    where
+      go : (m : Wakes) → nextOf nextLane (lowered (x .line) k y q) k ≡ m → Rests i e a
+      go Wakes.None t =
+          record { unwoken = woken-none e i (wv ∙ ap wakesValues t); unwaiting = inr (rw (al ∙ ap (wake (lowered (x .line) k y q)) t) (stays k y yw)) }
+      go (Wakes.Lane w) t =
+          record {
+            unwoken = woken-lane e w i (wv ∙ ap wakesValues t) ∙ ne-eqb i w other;
+            unwaiting = inr (rw (al ∙ ap (wake (lowered (x .line) k y q)) t, other-phase (lowered (x .line) k y q) w i (woken q (phaseAt (lowered (x .line) k y q) w)) other) (stays k y yw));
+          }
+        where
+          C : Chosen (x .line) k w
+          C = chosen (x .line) (G .facts) k o y q L w t
+
+          other : i ≢ w
+          other z = both (ap isWaiting (C .was)) (ap (λ (m : ℕ). isWaiting (phaseAt (x .line) m)) (sym z) ∙ wi)
+
+  -- an accepted want by lane j
+  wanted : (j : ℕ) (y : Phase) → (true && eqb j i ≡ true) ⊎ (isWaiting ((getD (placed (x .line) j y) i idleLane) .phase) ≡ false)
+  wanted j y =
+      elim (ℕ-discrete j i) [ yes z ↦ inl (eq-eqb j i z) | no z ↦ inr (rw (other-phase (x .line) j i y (λ u. z (sym u))) wi) ]
+
+  pub rests : (e : Event) (d : Entry) (r : Result) → Steps nextLane x (given e) r → Rests i (entryOf e d (saidBy (r .answer))) r
+  rests e d r (refuses n) = record { unwoken = refl; unwaiting = inr wi }
+  rests e d r (opens lanes capacity z a b c f g) = record { unwoken = refl; unwaiting = inr (rw (fresh-idle lanes capacity i)) }
+  rests e d r (wants j p hj q g) =
+      at-test (λ (t : Result). Rests i (entryOf (Event.Want j p) d (saidBy (t .answer))) t) (othersDown (x .line) j) _ _
+      (λ t. record { unwoken = refl; unwaiting = wanted j (Phase.Holding (purposeOf p) (x .line .pointer)) })
+      (λ t. record { unwoken = refl; unwaiting = wanted j (Phase.Waiting (purposeOf p)) })
+  rests e d r (receives j p v hj q) = record { unwoken = refl; unwaiting = inr (stays j (Phase.Holding p v) refl) }
+  rests e d r (take-writes j c v hj q f) =
+      leaves-rests _ _ j (Phase.Holding Purpose.SharedWrite v) (writing c v) (place (v .0 + c)) refl refl (busy-waits c (Phase.BusyWriting c v) refl) (take-writes-leaving (x .line) (G .facts) j c v hj q f)
+  rests e d r (take-reads j c v hj q f) =
+      leaves-rests _ _ j (Phase.Holding Purpose.SharedRead v) (reading c v) (place (v .0 + c)) refl refl (busy-waits c (Phase.BusyReading c v) refl) (take-reads-leaving (x .line) (G .facts) j c v hj q)
+  rests e d r (writes j content n k hj q) =
+      record { unwoken = refl; unwaiting = inr (stays j (oneLess (Phase.BusyWriting n k)) (busy-waits (n - 1) (Phase.BusyWriting (n - 1) (place (k .0 + 1))) refl)) }
+  rests e d r (reads j n k hj q) =
+      let m = stays j (oneLess (Phase.BusyReading n k)) (busy-waits (n - 1) (Phase.BusyReading (n - 1) (place (k .0 + 1))) refl) in
+      by-test (leb (recordEnd (x .line .view) k) (x .line .size)) (λ t. rw t (record { unwoken = refl; unwaiting = inr m })) (λ t. rw t (record { unwoken = refl; unwaiting = inr m }))
+  rests e d r (puts j k content v hj q f) = record { unwoken = refl; unwaiting = inr wi }
+  rests e d r (looks j k v hj q) =
+      by-test (leb (recordEnd (x .line .view) k) (x .line .size)) (λ t. rw t (record { unwoken = refl; unwaiting = inr wi })) (λ t. rw t (record { unwoken = refl; unwaiting = inr wi }))
+  rests e d r (frees j v hj q) =
+      leaves-rests _ _ j (Phase.Holding Purpose.WholeBook v) Phase.Idle (x .line .pointer) refl refl refl (free-leaving (x .line) (G .facts) j v hj q)
+  rests e d r (enters j c hj q g f) =
+      at-test (λ (t : Result). Rests i (entryOf (Event.Enter j c) d (saidBy (t .answer))) t) (allEntered (x .line) (entered (x .line) j c)) _ _
+      (λ t. record { unwoken = refl; unwaiting = inr (started-fails isWaiting refl (λ n v. refl) (x .line .pointer .0) (entered (x .line) j c) (entered-all (x .line) j c g) i) })
+      (λ t. record { unwoken = refl; unwaiting = inr (stays j (Phase.Gathered c) refl) })
+  rests e d r (views displacement extent used blocks z o g) = record { unwoken = refl; unwaiting = inr wi }
+  rests e d r (seeks whence offset n z t m g) = record { unwoken = refl; unwaiting = inr wi }

@@ -47,11 +47,13 @@ repeated zero j a = refl
 repeated (suc n) zero a = refl
 repeated (suc n) (suc j) a = repeated n j a
 
+pub fresh-idle : (lanes capacity j : ℕ) → phaseAt (opened lanes capacity) j ≡ Phase.Idle
+fresh-idle lanes capacity j = ap (λ (x : Lane). x .phase) (repeated mostLanes j idleLane)
+
 pub fresh-facts : (lanes capacity : ℕ) → lanes ≤ mostLanes → Facts (opened lanes capacity)
 fresh-facts lanes capacity h =
-    let idle : (j : ℕ) → (getD (replicate mostLanes idleLane) j idleLane) .phase ≡ Phase.Idle = λ j. ap (λ (x : Lane). x .phase) (repeated mostLanes j idleLane) in
     record {
-      base = record { long = refl; blocks = refl; few = h; flags = refl; regions = refl; disjoint = λ i j n. rw (idle i) refl; past = λ j p. idle j };
+      base = record { long = refl; blocks = refl; few = h; flags = refl; regions = refl; disjoint = λ i j n. rw (fresh-idle lanes capacity i) refl; past = λ j p. fresh-idle lanes capacity j };
       turn = record { one = refl; values = refl };
       gathering = λ g. absurd (omega arith);
     }

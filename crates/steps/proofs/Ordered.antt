@@ -88,6 +88,21 @@ unfolding starts
 starts-none p a b k [] = refl
 starts-none p a b k (x ∷ xs) = rw (start-fails p a b (countIn (x .phase)) k, starts-none p a b (k + countIn (x .phase)) xs)
 
+-- a test that neither an idle lane nor a busy writer passes, of a lane after the start
+pub started-fails : (p : Phase → Bool) → p Phase.Idle ≡ false → ((n : ℕ) (v : Place) → p (Phase.BusyWriting n v) ≡ false) → (k : ℕ) (ls : List Lane)
+    → all (on isIdleOrGathered) ls ≡ true → (j : ℕ) → p ((getD (started k ls) j idleLane) .phase) ≡ false
+unfolding starts
+started-fails p a b k ls e j = rw (started-starts k ls e) (go k ls j)
+  where
+    go : (k : ℕ) (ls : List Lane) (j : ℕ) → p ((getD (starts k ls) j idleLane) .phase) ≡ false
+    go k [] j = a
+    go k (x ∷ xs) zero = start-fails p a b (countIn (x .phase)) k
+    go k (x ∷ xs) (suc j) = go (k + countIn (x .phase)) xs j
+
+-- all lanes are idle or gathered after one more has entered
+pub entered-all : (l : Line) (i c : ℕ) → all (on isIdleOrGathered) (l .lane) ≡ true → all (on isIdleOrGathered) (entered l i c) ≡ true
+entered-all l i c ready = all-set (on isIdleOrGathered) (l .lane) i (lane (Phase.Gathered c)) ready refl
+
 -- no flag is up before or after
 zero-flags : (ls : List Lane) → count (on isUp) ls ≡ 0 → map (on flagFor) ls ≡ replicate (length ls) 0
 zero-flags [] z = refl
@@ -142,7 +157,7 @@ module _ (l : Line) (F : Facts l) (i c : ℕ) (h : i < l .lanes) (e : phaseAt l 
   entered-base = store-base l (F .base) i (Phase.Gathered c) (l .pointer) (l .flag) h (omega arith) entered-flags refl (λ j n. refl)
 
   entered-ready : all (on isIdleOrGathered) (entered l i c) ≡ true
-  entered-ready = all-set (on isIdleOrGathered) (l .lane) i (lane (Phase.Gathered c)) ready refl
+  entered-ready = entered-all l i c ready
 
   -- as many as there are lanes at the most
   pub entered-most : count (on isGathered) (entered l i c) ≤ l .lanes
