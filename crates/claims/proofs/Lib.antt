@@ -2,3 +2,6 @@
 pub mod ExampleSheet
 pub mod Seen
 pub mod Turn
+pub mod Trace
+pub mod Stands
+pub mod Places

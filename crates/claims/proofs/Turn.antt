@@ -32,7 +32,7 @@ use Rattle.steps.specs.State.{Result, State, withPhase}
 use Rattle.steps.specs.Effects.{allEntered, entered, lowered, nextOf, oneLess, othersDown, purposeOf, reading, recordAt, released, started, startedAt, wake, woken, writing}
 use Rattle.steps.proofs.Cases.{Steps, enters, frees, looks, opens, puts, reads, receives, refuses, seeks, take-reads, take-writes, views, wants, writes}
 use Rattle.steps.proofs.Keeps.{GoodState, free-leaving, fresh-idle, others-none, take-reads-leaving, take-writes-leaving}
-use Rattle.steps.proofs.Ordered.{busy-by, entered-all, started-fails}
+use Rattle.steps.proofs.Ordered.{busy-by, entered-all, started-by}
 use Rattle.steps.proofs.Release.{Chosen, Leaving, alone, chosen, woken-now}
 use Rattle.steps.proofs.Stored.{kinds-count, other-phase, placed, ready-count, same-phase, short}
 use Rattle.claims.specs.Demand3.{Entry, isRelease, wakes, wantsBy, wokenBy}
@@ -258,7 +258,7 @@ module _ (x : State) (G : GoodState x) (i : ℕ) (wi : isWaiting (phaseAt (x .li
       leaves-rests _ _ j (Phase.Holding Purpose.WholeBook v) Phase.Idle (x .line .pointer) refl refl refl (free-leaving (x .line) (G .facts) j v hj q)
   rests e d r (enters j c hj q g f) =
       at-test (λ (t : Result). Rests i (entryOf (Event.Enter j c) d (saidBy (t .answer))) t) (allEntered (x .line) (entered (x .line) j c)) _ _
-      (λ t. record { unwoken = refl; unwaiting = inr (started-fails isWaiting refl (λ n v. refl) (x .line .pointer .0) (entered (x .line) j c) (entered-all (x .line) j c g) i) })
+      (λ t. record { unwoken = refl; unwaiting = inr (started-by (λ (y : Phase). isWaiting y ≡ false) refl (λ n v. refl) (x .line .pointer .0) (entered (x .line) j c) (entered-all (x .line) j c g) i) })
       (λ t. record { unwoken = refl; unwaiting = inr (stays j (Phase.Gathered c) refl) })
   rests e d r (views displacement extent used blocks z o g) = record { unwoken = refl; unwaiting = inr wi }
   rests e d r (seeks whence offset n z t m g) = record { unwoken = refl; unwaiting = inr wi }

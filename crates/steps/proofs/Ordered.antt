@@ -88,15 +88,15 @@ unfolding starts
 starts-none p a b k [] = refl
 starts-none p a b k (x ∷ xs) = rw (start-fails p a b (countIn (x .phase)) k, starts-none p a b (k + countIn (x .phase)) xs)
 
--- a test that neither an idle lane nor a busy writer passes, of a lane after the start
-pub started-fails : (p : Phase → Bool) → p Phase.Idle ≡ false → ((n : ℕ) (v : Place) → p (Phase.BusyWriting n v) ≡ false) → (k : ℕ) (ls : List Lane)
-    → all (on isIdleOrGathered) ls ≡ true → (j : ℕ) → p ((getD (started k ls) j idleLane) .phase) ≡ false
+-- what holds of an idle lane and of a busy writer holds of each lane after the start
+pub started-by : (P : Phase → Type 0) → P Phase.Idle → ((n : ℕ) (v : Place) → P (Phase.BusyWriting n v)) → (k : ℕ) (ls : List Lane)
+    → all (on isIdleOrGathered) ls ≡ true → (j : ℕ) → P ((getD (started k ls) j idleLane) .phase)
 unfolding starts
-started-fails p a b k ls e j = rw (started-starts k ls e) (go k ls j)
+started-by P a b k ls e j = rw (started-starts k ls e) (go k ls j)
   where
-    go : (k : ℕ) (ls : List Lane) (j : ℕ) → p ((getD (starts k ls) j idleLane) .phase) ≡ false
+    go : (k : ℕ) (ls : List Lane) (j : ℕ) → P ((getD (starts k ls) j idleLane) .phase)
     go k [] j = a
-    go k (x ∷ xs) zero = start-fails p a b (countIn (x .phase)) k
+    go k (x ∷ xs) zero = busy-by P (countIn (x .phase)) (Phase.BusyWriting (countIn (x .phase)) (place k)) (λ z. a) (λ h. b (countIn (x .phase)) (place k))
     go k (x ∷ xs) (suc j) = go (k + countIn (x .phase)) xs j
 
 -- all lanes are idle or gathered after one more has entered

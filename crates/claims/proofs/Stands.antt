@@ -1,0 +1,191 @@
+-- How a lane stands, read off the calls and answers, is what its phase says.
+use Prim.Native.Nat.{ℕ, zero, suc, _+_, _-_, _≤_, _<_}
+use mathlib.Core.Path.{_≡_, refl, sym, ap, _∙_}
+use mathlib.Core.Logic.{_≢_}
+use mathlib.Core.Bool.{Bool, true, false, cond, not, _&&_, _||_, and-false, or-false}
+use mathlib.Core.List.{List, [], _∷_, _++_, map}
+use native.Mathlib.Omega.{arith}
+use native.Mathlib.Decide.{ℕ-discrete}
+use lib.ListN.{getD, length}
+use lib.Dec.{eqb, leb}
+use borrow.Author.Tests.{eq-eqb, ne-eqb}
+use Rattle.lists.specs.Lists.{all, any}
+use Rattle.lists.proofs.Tests.{at-test, both, by-test, clash}
+use Rattle.lists.proofs.Counts.{all-getD}
+use Rattle.view.specs.View.{place, recordEnd}
+use Rattle.view.specs.declared.Place.{Place}
+use Rattle.line.specs.declared.Purpose.{Purpose}
+use Rattle.line.specs.declared.Phase.{Phase}
+use Rattle.line.specs.declared.Line.{Line}
+use Rattle.line.specs.Line.{idleLane, isIdleOrGathered, on, phaseAt}
+use Rattle.line.specs.Line as phases
+use Rattle.line.proofs.Phases.{isUp}
+use Rattle.waitlist.specs.NextLane.{nextLane, wakesValues}
+use Rattle.waitlist.specs.declared.Wakes.{Wakes}
+use Rattle.event.specs.Event.{given}
+use Rattle.event.specs.declared.Event.{Event}
+use Rattle.steps.specs.Answer.{saidBy}
+use Rattle.steps.specs.State.{Result, State}
+use Rattle.steps.specs.Effects.{allEntered, entered, lowered, nextOf, oneLess, othersDown, purposeOf, reading, released, started, wake, woken as wokenPhase, writing}
+use Rattle.steps.specs.Step.{afterBy, stepBy}
+use Rattle.steps.proofs.Cases.{Steps, enters, frees, looks, opens, puts, reads, receives, refuses, seeks, steps, take-reads, take-writes, views, wants, writes}
+use Rattle.steps.proofs.Keeps.{GoodState, free-leaving, fresh-idle, take-reads-leaving, take-writes-leaving}
+use Rattle.steps.proofs.Ordered.{busy-by, entered-all, started-by}
+use Rattle.steps.proofs.Release.{Chosen, Leaving, chosen, woken-now}
+use Rattle.steps.proofs.Stored.{other-phase, placed, same-phase}
+use Rattle.claims.specs.Demand3.{Entry, Given, Standing, afterAll, callIn, entries, hasTurn, holding, isRelease, isWaiting, off, purposeFor, stand, standNext, tellsToWait, waiting, wakes, woken, wokenBy}
+use Rattle.claims.proofs.Seen.{by-entry, entryOf}
+use Rattle.claims.proofs.Trace.{entryOn, then, then-good}
+
+abbrev pub standOf : Phase → Standing
+standOf Phase.Idle = off
+standOf (Phase.Waiting p) = waiting p
+standOf (Phase.Woken p v) = woken p
+standOf (Phase.Holding p v) = holding p
+standOf (Phase.BusyWriting n k) = off
+standOf (Phase.BusyReading n k) = off
+standOf (Phase.Gathered n) = off
+
+pub waits-is : (y : Phase) → isWaiting (standOf y) ≡ phases.isWaiting y
+waits-is Phase.Idle = refl
+waits-is (Phase.Waiting p) = refl
+waits-is (Phase.Woken p v) = refl
+waits-is (Phase.Holding p v) = refl
+waits-is (Phase.BusyWriting n k) = refl
+waits-is (Phase.BusyReading n k) = refl
+waits-is (Phase.Gathered n) = refl
+
+pub turn-is : (y : Phase) → hasTurn (standOf y) ≡ phases.hasTurn y
+turn-is Phase.Idle = refl
+turn-is (Phase.Waiting p) = refl
+turn-is (Phase.Woken p v) = refl
+turn-is (Phase.Holding p v) = refl
+turn-is (Phase.BusyWriting n k) = refl
+turn-is (Phase.BusyReading n k) = refl
+turn-is (Phase.Gathered n) = refl
+
+ready-off : (y : Phase) → isIdleOrGathered y ≡ true → standOf y ≡ off
+ready-off Phase.Idle e = refl
+ready-off (Phase.Waiting p) e = clash (sym e)
+ready-off (Phase.Woken p v) e = clash (sym e)
+ready-off (Phase.Holding p v) e = clash (sym e)
+ready-off (Phase.BusyWriting n k) e = clash (sym e)
+ready-off (Phase.BusyReading n k) e = clash (sym e)
+ready-off (Phase.Gathered n) e = refl
+
+-- a lane whose flag is not up stands off
+down-off : (y : Phase) → isUp y ≡ false → standOf y ≡ off
+down-off Phase.Idle e = refl
+down-off (Phase.Waiting p) e = clash e
+down-off (Phase.Woken p v) e = clash e
+down-off (Phase.Holding p v) e = clash e
+down-off (Phase.BusyWriting n k) e = refl
+down-off (Phase.BusyReading n k) e = refl
+down-off (Phase.Gathered n) e = refl
+
+busy-off : (n : ℕ) (y : Phase) → standOf y ≡ off → standOf (cond (eqb n 0) Phase.Idle y) ≡ off
+busy-off n y e = busy-by (λ (z : Phase). standOf z ≡ off) n y (λ z. refl) (λ z. e)
+
+-- an entry takes a lane's standing to that of its phase after the step
+pub record Stood (s : Standing) (i : ℕ) (e : Entry) (r : Result) : Type 0 where
+  pub is : standNext i s e ≡ standOf (phaseAt (r .after .line) i)
+
+module _ (x : State) (G : GoodState x) (i : ℕ) where
+  abbrev now : Standing
+  now = standOf (phaseAt (x .line) i)
+
+  -- lane j gets phase y
+  stored-stand : (j : ℕ) (y : Phase) → j < x .line .lanes → standOf ((getD (placed (x .line) j y) i idleLane) .phase) ≡ cond (eqb j i) (standOf y) now
+  stored-stand j y h =
+      elim (ℕ-discrete j i) [
+          yes z ↦ rw (eq-eqb j i z, ← z, same-phase (x .line) (G .facts .base) j y h)
+        | no z ↦ rw (ne-eqb j i z, other-phase (x .line) j i y (λ u. z (sym u))) ]
+
+  -- .. that stands as the one before
+  same-stand : (j : ℕ) (o y : Phase) → j < x .line .lanes → phaseAt (x .line) j ≡ o → standOf y ≡ standOf o → now ≡ standOf ((getD (placed (x .line) j y) i idleLane) .phase)
+  same-stand j o y h e f =
+      sym (stored-stand j y h ∙ elim (ℕ-discrete j i) [
+          yes z ↦ rw (eq-eqb j i z, f, ← e, z)
+        | no z ↦ rw (ne-eqb j i z) ])
+
+  -- ---- a release by lane k
+  leaves-stand : (e : Entry) (a : Result) (k : ℕ) (o y : Phase) (q : Place) → standNext i now e ≡ cond (eqb k i) off (cond (wakes i e) (woken (purposeFor now)) now)
+      → wokenBy e ≡ wakesValues (nextOf nextLane (lowered (x .line) k y q) k)
+      → a .after .line ≡ released nextLane (lowered (x .line) k y q) k → standOf y ≡ off → Leaving (x .line) k o y q → Stood now i e a
+  leaves-stand e a k o y q sn wv al yo L = record { is = go (nextOf nextLane (lowered (x .line) k y q) k) refl }
+    where
+      go : (m : Wakes) → nextOf nextLane (lowered (x .line) k y q) k ≡ m → standNext i now e ≡ standOf (phaseAt (a .after .line) i)
+      go Wakes.None t =
+          let w : wakes i e ≡ false = ap (any (eqb i)) (wv ∙ ap wakesValues t) in
+          sn ∙ rw (w, al ∙ ap (wake (lowered (x .line) k y q)) t, stored-stand k y (L .inside), yo)
+      go (Wakes.Lane w) t =
+          sn ∙ elim (ℕ-discrete i w) [
+              yes z ↦ rw (names ∙ eq-eqb i w z, ne-eqb k i (λ u. C .other (sym (u ∙ z))), lines) (rw z (rw (C .was, nowWoken)))
+            | no z ↦ rw (names ∙ ne-eqb i w z, lines, other-phase (lowered (x .line) k y q) w i (wokenPhase q (phaseAt (lowered (x .line) k y q) w)) z, stored-stand k y (L .inside), yo) ]
+        where
+          C : Chosen (x .line) k w
+          C = chosen (x .line) (G .facts) k o y q L w t
+
+          names : wakes i e ≡ eqb i w
+          names = ap (any (eqb i)) (wv ∙ ap wakesValues t) ∙ or-false (eqb i w)
+
+          lines : a .after .line ≡ wake (lowered (x .line) k y q) (Wakes.Lane w)
+          lines = al ∙ ap (wake (lowered (x .line) k y q)) t
+
+          nowWoken : phaseAt (wake (lowered (x .line) k y q) (Wakes.Lane w)) w ≡ Phase.Woken (C .purpose) q
+          nowWoken = woken-now (x .line) (G .facts) k o y q L w t
+
+  -- ---- each step
+  -- lane j's own call
+  own-stand : (j : ℕ) (y : Phase) (s : Standing) → j < x .line .lanes → standOf y ≡ s → cond (eqb j i) s now ≡ standOf ((getD (placed (x .line) j y) i idleLane) .phase)
+  own-stand j y s h e = sym (stored-stand j y h ∙ ap (λ (t : Standing). cond (eqb j i) t now) e)
+
+  -- the lane of a want that is told to wait
+  told-waits : (j : ℕ) (a b : Standing) → cond (eqb j i) (cond (eqb j i && true) a b) now ≡ cond (eqb j i) a now
+  told-waits j a b = by-test (eqb j i) (λ t. rw t) (λ t. rw t)
+
+  receive-stand : (j : ℕ) (p : Purpose) (v : Place) → j < x .line .lanes → phaseAt (x .line) j ≡ Phase.Woken p v
+      → cond (eqb j i) (holding (purposeFor now)) now ≡ standOf ((getD (placed (x .line) j (Phase.Holding p v)) i idleLane) .phase)
+  receive-stand j p v h e =
+      elim (ℕ-discrete j i) [
+          yes z ↦ rw (eq-eqb j i z, ← z, e, same-phase (x .line) (G .facts .base) j (Phase.Holding p v) h)
+        | no z ↦ rw (ne-eqb j i z, other-phase (x .line) j i (Phase.Holding p v) (λ u. z (sym u))) ]
+
+  pub stand-event : (e : Event) (d : Entry) (r : Result) → Steps nextLane x (given e) r → Stood now i (entryOf e d (saidBy (r .answer))) r
+  stand-event e d r (refuses n) = record { is = refl }
+  stand-event e d r (opens lanes capacity z a b c f g) =
+      record { is = ap standOf (G .facts .base .past i (omega arith)) ∙ sym (ap standOf (fresh-idle lanes capacity i)) }
+  stand-event e d r (wants j p h q g) =
+      at-test (λ (t : Result). Stood now i (entryOf (Event.Want j p) d (saidBy (t .answer))) t) (othersDown (x .line) j) _ _
+      (λ t. record { is = rw (and-false (eqb j i)) (own-stand j (Phase.Holding (purposeOf p) (x .line .pointer)) (holding (purposeOf p)) h refl) })
+      (λ t. record { is = told-waits j (waiting (purposeOf p)) (holding (purposeOf p)) ∙ own-stand j (Phase.Waiting (purposeOf p)) (waiting (purposeOf p)) h refl })
+  stand-event e d r (receives j p v h q) = record { is = receive-stand j p v h q }
+  stand-event e d r (take-writes j c v h q f) =
+      leaves-stand _ _ j (Phase.Holding Purpose.SharedWrite v) (writing c v) (place (v .0 + c)) refl refl refl (busy-off c (Phase.BusyWriting c v) refl) (take-writes-leaving (x .line) (G .facts) j c v h q f)
+  stand-event e d r (take-reads j c v h q f) =
+      leaves-stand _ _ j (Phase.Holding Purpose.SharedRead v) (reading c v) (place (v .0 + c)) refl refl refl (busy-off c (Phase.BusyReading c v) refl) (take-reads-leaving (x .line) (G .facts) j c v h q)
+  stand-event e d r (writes j content n k h q) =
+      record { is = same-stand j (Phase.BusyWriting n k) (oneLess (Phase.BusyWriting n k)) h q (busy-off (n - 1) (Phase.BusyWriting (n - 1) (place (k .0 + 1))) refl) }
+  stand-event e d r (reads j n k h q) =
+      let m = same-stand j (Phase.BusyReading n k) (oneLess (Phase.BusyReading n k)) h q (busy-off (n - 1) (Phase.BusyReading (n - 1) (place (k .0 + 1))) refl) in
+      by-test (leb (recordEnd (x .line .view) k) (x .line .size)) (λ t. record { is = rw t m }) (λ t. record { is = rw t m })
+  stand-event e d r (puts j k content v h q f) = record { is = refl }
+  stand-event e d r (looks j k v h q) = by-test (leb (recordEnd (x .line .view) k) (x .line .size)) (λ t. record { is = rw t }) (λ t. record { is = rw t })
+  stand-event e d r (frees j v h q) =
+      leaves-stand _ _ j (Phase.Holding Purpose.WholeBook v) Phase.Idle (x .line .pointer) refl refl refl refl (free-leaving (x .line) (G .facts) j v h q)
+  stand-event e d r (enters j c h q g f) =
+      at-test (λ (t : Result). Stood now i (entryOf (Event.Enter j c) d (saidBy (t .answer))) t) (allEntered (x .line) (entered (x .line) j c)) _ _
+      (λ t. record { is = ready-off (phaseAt (x .line) i) (all-getD (on isIdleOrGathered) (x .line .lane) i idleLane g refl)
+        ∙ sym (down-off ((getD (started (x .line .pointer .0) (entered (x .line) j c)) i idleLane) .phase) (started-by (λ (y : Phase). isUp y ≡ false) refl (λ n v. refl) (x .line .pointer .0) (entered (x .line) j c) (entered-all (x .line) j c g) i)) })
+      (λ t. record { is = same-stand j Phase.Idle (Phase.Gathered c) h q refl })
+  stand-event e d r (views displacement extent used blocks z o g) = record { is = refl }
+  stand-event e d r (seeks whence offset n z t m g) = record { is = refl }
+
+  pub stand-call : (g : Given) → standNext i now (entryOn x g) ≡ standOf (phaseAt (then x g .line) i)
+  stand-call g = by-entry x g (Stood now i) (λ d n. record { is = refl }) stand-event .is
+
+-- ---- over a list of calls
+pub stands : (gs : List Given) (x : State) → GoodState x → (i : ℕ) → stand i (standOf (phaseAt (x .line) i)) (entries nextLane x gs) ≡ standOf (phaseAt (afterAll nextLane x gs .line) i)
+unfolding entries stand afterBy
+stands [] x G i = refl
+stands (g ∷ gs) x G i = ap (λ (s : Standing). stand i s (entries nextLane (then x g) gs)) (stand-call x G i g) ∙ stands gs (then x g) (then-good x g G) i
