@@ -5,3 +5,5 @@ pub mod Turn
 pub mod Trace
 pub mod Stands
 pub mod Places
+pub mod Goes
+pub mod Demand3

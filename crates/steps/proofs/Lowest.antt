@@ -146,6 +146,9 @@ module _ (search : Search) (x : State) (c : Call) where
       go (refused m w) = both (w .applies) (f m)
       go (accepted g) = refl
 
+  pub none-accepts : ((n : ℕ) → NotApplies x c n) → saidBy (stepBy search x c .answer) .accepted ≡ true
+  none-accepts f = rw (none-accepted f) (call-accepted search x c f)
+
   -- "A refused call changes neither line nor book"
   pub refused-keeps : saidBy (stepBy search x c .answer) .accepted ≡ false → stepBy search x c .after ≡ x
   refused-keeps e = go (decided search x c) e

@@ -1,0 +1,143 @@
+-- Demand 3 holds of every list of calls, from an unopened line and any lent bytes.
+use Prim.Native.Nat.{ℕ, zero, suc, _+_, _-_, _≤_}
+use mathlib.Core.Path.{_≡_, refl, sym, ap, _∙_}
+use mathlib.Core.Bool.{Bool, true, false, cond, not, _&&_, _||_}
+use mathlib.Core.List.{List, [], _∷_, _++_, map}
+use native.Mathlib.Omega.{arith}
+use lib.Dec.{eqb, leb}
+use Rattle.lists.specs.Lists.{count}
+use Rattle.lists.proofs.Tests.{and-left, at-test, by-test, clash}
+use Rattle.view.specs.View.{recordEnd}
+use Rattle.line.specs.declared.Line.{Line}
+use Rattle.line.specs.declared.Phase.{Phase}
+use Rattle.line.specs.declared.Purpose.{Purpose}
+use Rattle.line.specs.Line.{phaseAt}
+use Rattle.line.specs.Line as phases
+use Rattle.waitlist.specs.NextLane.{nextLane}
+use Rattle.waitlist.specs.declared.Wakes.{Wakes}
+use Rattle.event.specs.Event.{Call, given}
+use Rattle.event.specs.declared.Event.{Event}
+use Rattle.steps.specs.Answer.{saidBy}
+use Rattle.steps.specs.State.{Result, State}
+use Rattle.steps.specs.Effects.{Search, allEntered, entered, freed, nextOf, othersDown, purposeOf, taken, wake}
+use Rattle.steps.specs.Step.{afterBy, stepBy}
+use Rattle.steps.proofs.Cases.{Steps, enters, frees, looks, opens, puts, reads, receives, refuses, seeks, take-reads, take-writes, views, wants, writes}
+use Rattle.steps.proofs.Keeps.{GoodState, fresh-idle, unopened-good}
+use Rattle.claims.specs.Demand3.{Demand3, DemandThree, Entry, Given, GoesOn, Grant, Handed, InOrder, OnlyTurn, Standing, WaitEnds, afterAll, callIn, entries, entriesAfter, entriesOf, entryAfter, grants, handed, hasTurn, isAccepted, isReset, isWaiting, lanesIn, off, range, stand, standNext, start, tellsToWait, value, waiting, wantsBy}
+use Rattle.claims.proofs.Goes.{OnlyPhase, goes, only-turn}
+use Rattle.claims.proofs.Places.{Placed, all-placed, reset-gathers, total, wake-lanes}
+use Rattle.claims.proofs.Seen.{by-entry, entryOf}
+use Rattle.claims.proofs.Stands.{stand-call, standOf, stands, turn-is, waits-is}
+use Rattle.claims.proofs.Trace.{entryOn, fair, sent, single, then, then-good}
+
+-- ---- the states along a list
+after-good : (gs : List Given) (x : State) → GoodState x → GoodState (afterAll nextLane x gs)
+unfolding afterBy
+after-good [] x G = G
+after-good (g ∷ gs) x G = after-good gs (then x g) (then-good x g G)
+
+after-append : (a b : List Given) (x : State) → afterAll nextLane x (a ++ b) ≡ afterAll nextLane (afterAll nextLane x a) b
+unfolding afterBy
+after-append [] b x = refl
+after-append (g ∷ a) b x = after-append a b (then x g)
+
+after-one : (early : List Given) (g : Given) (x : State) → afterAll nextLane x (early ++ g ∷ []) ≡ then (afterAll nextLane x early) g
+unfolding afterBy
+after-one early g x = after-append early (g ∷ []) x
+
+-- ---- N, by the answers
+lanes-call : (x : State) (g : Given) → cond (isAccepted 0x01 (entryOn x g)) (value 0 (entryOn x g)) (x .line .lanes) ≡ then x g .line .lanes
+lanes-call x g =
+    by-entry x g (λ (e : Entry) (r : Result). cond (isAccepted 0x01 e) (value 0 e) (x .line .lanes) ≡ r .after .line .lanes) (λ d n. refl) lanes-event
+  where
+    lanes-event : (e : Event) (d : Entry) (r : Result) → Steps nextLane x (given e) r → cond (isAccepted 0x01 (entryOf e d (saidBy (r .answer)))) (value 0 (entryOf e d (saidBy (r .answer)))) (x .line .lanes) ≡ r .after .line .lanes
+    lanes-event e d r (refuses n) = refl
+    lanes-event e d r (opens lanes capacity z a b c i h) = refl
+    lanes-event e d r (wants j p h q i) = by-test (othersDown (x .line) j) (λ t. rw t) (λ t. rw t)
+    lanes-event e d r (receives j p v h q) = refl
+    lanes-event e d r (take-writes j c v h q i) = let t = taken (x .line) j c (Phase.Holding Purpose.SharedWrite v) in sym (wake-lanes t (nextOf nextLane t j))
+    lanes-event e d r (take-reads j c v h q i) = let t = taken (x .line) j c (Phase.Holding Purpose.SharedRead v) in sym (wake-lanes t (nextOf nextLane t j))
+    lanes-event e d r (writes j content n k h q) = refl
+    lanes-event e d r (reads j n k h q) = by-test (leb (recordEnd (x .line .view) k) (x .line .size)) (λ t. rw t) (λ t. rw t)
+    lanes-event e d r (puts j k content v h q i) = refl
+    lanes-event e d r (looks j k v h q) = by-test (leb (recordEnd (x .line .view) k) (x .line .size)) (λ t. rw t) (λ t. rw t)
+    lanes-event e d r (frees j v h q) = let t = freed (x .line) j in sym (wake-lanes t (nextOf nextLane t j))
+    lanes-event e d r (enters j c h q i o) = by-test (allEntered (x .line) (entered (x .line) j c)) (λ t. rw t) (λ t. rw t)
+    lanes-event e d r (views displacement extent used blocks z o i) = refl
+    lanes-event e d r (seeks whence offset n z t m i) = refl
+
+lanes-are : (gs : List Given) (x : State) → lanesIn (x .line .lanes) (entries nextLane x gs) ≡ afterAll nextLane x gs .line .lanes
+unfolding entries lanesIn afterBy
+lanes-are [] x = refl
+lanes-are (g ∷ gs) x = ap (λ (n : ℕ). lanesIn n (entries nextLane (then x g) gs)) (lanes-call x g) ∙ lanes-are gs (then x g)
+
+-- ---- what is claimed after the calls `early`
+module _ (book : List ℕ) (early : List Given) where
+  abbrev here : State
+  here = afterAll nextLane (start book) early
+
+  good : GoodState here
+  good = after-good early (start book) (unopened-good book)
+
+  stood : (i : ℕ) → stand i off (entriesOf nextLane book early) ≡ standOf (phaseAt (here .line) i)
+  stood i =
+      ap (λ (s : Standing). stand i s (entriesOf nextLane book early)) (sym (ap standOf (fresh-idle 0 0 i))) ∙ stands early (start book) (unopened-good book) i
+
+  lanes-here : lanesIn 0 (entriesOf nextLane book early) ≡ here .line .lanes
+  lanes-here = lanes-are early (start book)
+
+  waits-here : (i : ℕ) → isWaiting (stand i off (entriesOf nextLane book early)) ≡ true → phases.isWaiting (phaseAt (here .line) i) ≡ true
+  waits-here i w = sym (waits-is (phaseAt (here .line) i)) ∙ ap isWaiting (sym (stood i)) ∙ w
+
+  one-turn : (h : ℕ) → OnlyPhase (here .line) h → OnlyTurn (entriesOf nextLane book early) h
+  one-turn h a =
+      record {
+        has = ap hasTurn (stood h) ∙ turn-is (phaseAt (here .line) h) ∙ a .has;
+        only = λ j t. a .only j (sym (turn-is (phaseAt (here .line) j)) ∙ ap hasTurn (sym (stood j)) ∙ t);
+      }
+
+  goes-here : (i : ℕ) → isWaiting (stand i off (entriesOf nextLane book early)) ≡ true → GoesOn nextLane book early
+  goes-here i w =
+      let h = only-turn (here .line) (good .facts) i (waits-here i w) in
+      record { holder = h .0; one = one-turn (h .0) (h .1); next = rw (stood (h .0)) (goes here good (h .0) (h .1 .has)) }
+
+  wait-ends : (i : ℕ) (later : List Given) → phases.isWaiting (phaseAt (here .line) i) ≡ true → WaitEnds nextLane book i early later
+  wait-ends i later w =
+      let h = only-turn (here .line) (good .facts) i w in
+      record {
+        holder = h .0;
+        one = one-turn (h .0) (h .1);
+        sent = λ d. sent later here i (h .0) good w (h .1 .has) (rw lanes-here at d);
+        single = single later here i (h .0) good w (h .1 .has);
+        fair = λ z j. fair later here i (h .0) j good w (h .1 .has) z .0;
+      }
+
+  -- the call that tells lane i to wait leaves it waiting
+  told-waits : (told : Given) (i : ℕ) → tellsToWait i (entryAfter nextLane book early told) ≡ true → phases.isWaiting (phaseAt (then here told .line) i) ≡ true
+  told-waits told i t =
+      let e = entryAfter nextLane book early told in
+      let w : wantsBy i e ≡ true = and-left (wantsBy i e) _ t in
+      let s : standNext i (standOf (phaseAt (here .line) i)) e ≡ waiting (purposeOf (e .purpose)) = rw (t, w) in
+      sym (waits-is (phaseAt (then here told .line) i)) ∙ ap isWaiting (sym (stand-call here good i told) ∙ s)
+
+-- ---- the places
+module _ (book : List ℕ) (early later : List Given) (first : Given) where
+  abbrev begun : List Given
+  begun = early ++ first ∷ []
+
+  placed-here : isReset (entryAfter nextLane book early first) ≡ true → count isReset (entriesAfter nextLane book begun later) ≡ 0 → InOrder nextLane book begun later
+  placed-here r z =
+      let e = after-one early first (start book) in
+      let P = all-placed later (here book begun) [] (good book begun) (rw e (reset-gathers (here book early) first r)) z in
+      let last = ap (λ (x : State). x .line .pointer .0) (after-append begun later (start book)) ∙ P .last in
+      let n = lanes-here book begun in
+      let m : here book (begun ++ later) .line .pointer .0 - here book begun .line .pointer .0 ≡ total (grants (here book begun .line .lanes) [] (entriesAfter nextLane book begun later)) = omega (arith, last) in
+      record { places = rw (n, m) (P .in-order); last = rw n last }
+
+pub demand-three : DemandThree
+demand-three book calls =
+    record {
+      waits-end = λ early later rest told i q t. wait-ends book (early ++ told ∷ []) i later (rw (after-one early told (start book)) (told-waits book early told i t));
+      goes-on = λ early rest i q w. goes-here book early i w;
+      in-order = λ early later rest first q r z. placed-here book early later first r z;
+    }
