@@ -1,3 +1,3 @@
 -- The claims about the definitions.
 pub mod ExampleSheet
-pub mod Demand3
+pub mod Trials

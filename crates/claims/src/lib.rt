@@ -1,1 +1,1 @@
-// What is claimed of the definitions as a whole: the edges of document 01, its example sheet, and demand 3; no functions.
+// What comes out of the definitions by computation: the edges of document 01, its example sheet, trials of demand 3; no functions.

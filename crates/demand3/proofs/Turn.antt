@@ -35,8 +35,8 @@ use Rattle.steps.proofs.Keeps.{GoodState, free-leaving, fresh-idle, others-none
 use Rattle.steps.proofs.Ordered.{busy-by, entered-all, started-by}
 use Rattle.steps.proofs.Release.{Chosen, Leaving, alone, chosen, woken-now}
 use Rattle.steps.proofs.Stored.{kinds-count, other-phase, placed, ready-count, same-phase, short}
-use Rattle.claims.specs.Demand3.{Entry, isRelease, wakes, wantsBy, wokenBy}
-use Rattle.claims.proofs.Seen.{entryOf}
+use Rattle.demand3.specs.Claim.{Entry, isRelease, wakes, wantsBy, wokenBy}
+use Rattle.demand3.proofs.Seen.{entryOf}
 
 -- ---- phases
 pub waits-up : (y : Phase) → isWaiting y ≡ true → isUp y ≡ true

@@ -25,9 +25,9 @@ use Rattle.steps.specs.Refusals.{reasons}
 use Rattle.steps.specs.Step.{stepBy}
 use Rattle.steps.proofs.Keeps.{GoodState, holding-value}
 use Rattle.steps.proofs.Lowest.{NotApplies, none-accepts}
-use Rattle.claims.specs.Demand3.{callIn, holding, onward, release, saidTo, woken}
-use Rattle.claims.proofs.Stands.{standOf}
-use Rattle.claims.proofs.Turn.{same-turn, turn-found, turn-up, up-count, up-inside, waits-up}
+use Rattle.demand3.specs.Claim.{callIn, holding, onward, release, saidTo, woken}
+use Rattle.demand3.proofs.Stands.{standOf}
+use Rattle.demand3.proofs.Turn.{same-turn, turn-found, turn-up, up-count, up-inside, waits-up}
 
 -- ---- the onward calls as events
 one-byte : (b : ℕ) → numberOf (b ∷ []) ≡ b

@@ -19,9 +19,9 @@ use Rattle.steps.specs.State.{Result, State}
 use Rattle.steps.specs.Step.{stepBy}
 use Rattle.steps.proofs.Cases.{steps}
 use Rattle.steps.proofs.Keeps.{GoodState, keeps}
-use Rattle.claims.specs.Demand3.{Entry, Given, callIn, entries, entry, isRelease, saidTo, wakes, wantsBy}
-use Rattle.claims.proofs.Seen.{by-entry}
-use Rattle.claims.proofs.Turn.{Rests, Turn, calm, its, nearer, rests, turn, turn-up, up-inside, waits-no-turn}
+use Rattle.demand3.specs.Claim.{Entry, Given, callIn, entries, entry, isRelease, saidTo, wakes, wantsBy}
+use Rattle.demand3.proofs.Seen.{by-entry}
+use Rattle.demand3.proofs.Turn.{Rests, Turn, calm, its, nearer, rests, turn, turn-up, up-inside, waits-no-turn}
 
 -- the state after one call, and what it is
 abbrev pub then : State → Given → State

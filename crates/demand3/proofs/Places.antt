@@ -34,9 +34,9 @@ use Rattle.steps.proofs.Cases.{Steps, enters, frees, looks, opens, puts, reads,
 use Rattle.steps.proofs.Keeps.{GoodState, fresh-idle, holding-value}
 use Rattle.steps.proofs.Ordered.{busy-by, entered-all, started-by}
 use Rattle.steps.proofs.Stored.{other-phase, placed, same-phase}
-use Rattle.claims.specs.Demand3.{Entered, Entry, Given, Grant, Handed, afterAll, callIn, countFor, enteredNext, entries, grants, grantsBy, handTo, handed, isAccepted, isReset, lanesIn, range, shares, value}
-use Rattle.claims.proofs.Seen.{by-entry, entryOf}
-use Rattle.claims.proofs.Trace.{entryOn, then, then-good}
+use Rattle.demand3.specs.Claim.{Entered, Entry, Given, Grant, Handed, afterAll, callIn, countFor, enteredNext, entries, grants, grantsBy, handTo, handed, isAccepted, isReset, lanesIn, range, shares, value}
+use Rattle.demand3.proofs.Seen.{by-entry, entryOf}
+use Rattle.demand3.proofs.Trace.{entryOn, then, then-good}
 
 -- ---- ranges, and the places of grants
 abbrev places : List Grant → List ℕ

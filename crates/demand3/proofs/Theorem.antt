@@ -23,12 +23,12 @@ use Rattle.steps.specs.Effects.{Search, allEntered, entered, freed, nextOf, oth
 use Rattle.steps.specs.Step.{afterBy, stepBy}
 use Rattle.steps.proofs.Cases.{Steps, enters, frees, looks, opens, puts, reads, receives, refuses, seeks, take-reads, take-writes, views, wants, writes}
 use Rattle.steps.proofs.Keeps.{GoodState, fresh-idle, unopened-good}
-use Rattle.claims.specs.Demand3.{Demand3, DemandThree, Entry, Given, GoesOn, Grant, Handed, InOrder, OnlyTurn, Standing, WaitEnds, afterAll, callIn, entries, entriesAfter, entriesOf, entryAfter, grants, handed, hasTurn, isAccepted, isReset, isWaiting, lanesIn, off, range, stand, standNext, start, tellsToWait, value, waiting, wantsBy}
-use Rattle.claims.proofs.Goes.{OnlyPhase, goes, only-turn}
-use Rattle.claims.proofs.Places.{Placed, all-placed, reset-gathers, total, wake-lanes}
-use Rattle.claims.proofs.Seen.{by-entry, entryOf}
-use Rattle.claims.proofs.Stands.{stand-call, standOf, stands, turn-is, waits-is}
-use Rattle.claims.proofs.Trace.{entryOn, fair, sent, single, then, then-good}
+use Rattle.demand3.specs.Claim.{Demand3, DemandThree, Entry, Given, GoesOn, Grant, Handed, InOrder, OnlyTurn, Standing, WaitEnds, afterAll, callIn, entries, entriesAfter, entriesOf, entryAfter, grants, handed, hasTurn, isAccepted, isReset, isWaiting, lanesIn, off, range, stand, standNext, start, tellsToWait, value, waiting, wantsBy}
+use Rattle.demand3.proofs.Goes.{OnlyPhase, goes, only-turn}
+use Rattle.demand3.proofs.Places.{Placed, all-placed, reset-gathers, total, wake-lanes}
+use Rattle.demand3.proofs.Seen.{by-entry, entryOf}
+use Rattle.demand3.proofs.Stands.{stand-call, standOf, stands, turn-is, waits-is}
+use Rattle.demand3.proofs.Trace.{entryOn, fair, sent, single, then, then-good}
 
 -- ---- the states along a list
 after-good : (gs : List Given) (x : State) → GoodState x → GoodState (afterAll nextLane x gs)

@@ -17,7 +17,7 @@ use Rattle.steps.specs.Answer.{Said, saidBy}
 use Rattle.steps.specs.State.{Result, State}
 use Rattle.steps.specs.Step.{refuse, stepBy}
 use Rattle.steps.proofs.Cases.{Steps, refuses, steps}
-use Rattle.claims.specs.Demand3.{Entry, Given, callIn, entry, saidTo}
+use Rattle.demand3.specs.Claim.{Entry, Given, callIn, entry, saidTo}
 
 -- ---- the fields of an event that an entry shows; the others are those of the bytes
 abbrev pub laneFrom : Event → ℕ → ℕ

@@ -33,9 +33,9 @@ use Rattle.steps.proofs.Keeps.{GoodState, free-leaving, fresh-idle, take-reads-
 use Rattle.steps.proofs.Ordered.{busy-by, entered-all, started-by}
 use Rattle.steps.proofs.Release.{Chosen, Leaving, chosen, woken-now}
 use Rattle.steps.proofs.Stored.{other-phase, placed, same-phase}
-use Rattle.claims.specs.Demand3.{Entry, Given, Standing, afterAll, callIn, entries, hasTurn, holding, isRelease, isWaiting, off, purposeFor, stand, standNext, tellsToWait, waiting, wakes, woken, wokenBy}
-use Rattle.claims.proofs.Seen.{by-entry, entryOf}
-use Rattle.claims.proofs.Trace.{entryOn, then, then-good}
+use Rattle.demand3.specs.Claim.{Entry, Given, Standing, afterAll, callIn, entries, hasTurn, holding, isRelease, isWaiting, off, purposeFor, stand, standNext, tellsToWait, waiting, wakes, woken, wokenBy}
+use Rattle.demand3.proofs.Seen.{by-entry, entryOf}
+use Rattle.demand3.proofs.Trace.{entryOn, then, then-good}
 
 abbrev pub standOf : Phase → Standing
 standOf Phase.Idle = off
