@@ -1,7 +1,7 @@
 -- Each kind's step as the chain of just those tests that the kind can fail, in the order of the refusals.
 use Prim.Native.Nat.{ℕ, _+_}
 use mathlib.Core.Path.{_≡_, refl}
-use mathlib.Core.Bool.{Bool, true, false, cond, not, _&&_, _||_, and-true, or-false}
+use mathlib.Core.Bool.{cond, not, _&&_, and-true, or-false}
 use lib.ListN.{length}
 use lib.IntN.{ℤ}
 use lib.Dec.{eqb, leb, ltb}
