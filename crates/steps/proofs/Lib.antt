@@ -6,3 +6,4 @@ pub mod Release
 pub mod Ordered
 pub mod Keeps
 pub mod Chains
+pub mod Edges
