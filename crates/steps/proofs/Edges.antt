@@ -2,17 +2,17 @@
 use Prim.Native.Nat.{ℕ, zero, suc, _+_, _-_, _≤_, _<_}
 use mathlib.Core.Path.{_≡_, refl, sym, ap, _∙_}
 use mathlib.Core.Logic.{_≢_}
-use mathlib.Core.Bool.{Bool, true, false, cond, not, _&&_, _||_, and-true}
-use mathlib.Core.List.{List, [], _∷_, _++_}
+use mathlib.Core.Bool.{true, false, cond, not}
+use mathlib.Core.List.{List, [], _∷_}
 use native.Mathlib.Omega.{arith}
 use native.Mathlib.Nat.{add-zero}
 use lib.ListN.{drop, getD, length, replicate, set, take, length-replicate, getD-replicate, length-set, List·getD-append}
 use lib.Seq.{getD-append-add, getD-drop, getD-set-other, getD-set-same, sets}
-use lib.IntN.{ℤ, pos, negsuc}
-use lib.Dec.{eqb, leb, ltb}
+use lib.IntN.{negsuc}
+use lib.Dec.{eqb, leb}
 use borrow.Author.Tests.{eqb-true, le-leb, le-ltb, lt-leb, lt-ltb, ne-eqb}
 use Rattle.lists.specs.Lists.{all, any}
-use Rattle.lists.proofs.Tests.{both, by-test, clash}
+use Rattle.lists.proofs.Tests.{by-test}
 use Rattle.lists.proofs.Counts.{all-getD}
 use Rattle.view.specs.View.{place, positionOf, recordEnd}
 use Rattle.view.specs.declared.Place.{Place}
@@ -20,20 +20,21 @@ use Rattle.line.specs.declared.Purpose.{Purpose}
 use Rattle.line.specs.declared.Phase.{Phase}
 use Rattle.line.specs.declared.Lane.{Lane}
 use Rattle.line.specs.declared.Line.{Line}
-use Rattle.line.specs.Line.{countIn, idleLane, isGathered, isIdle, lane, mostPointer, on, phaseAt, placeIn}
+use Rattle.line.specs.Line.{countIn, idleLane, isGathered, isIdle, isWaiting, isWoken, lane, mostPointer, on, phaseAt, placeIn}
 use Rattle.line.specs.Sound.{gatheredTotal, sound}
-use Rattle.waitlist.specs.NextLane.{firstRaised, nextLane, raised}
+use Rattle.waitlist.specs.NextLane.{firstRaised, nextLane}
 use Rattle.waitlist.specs.declared.Wakes.{Wakes}
 use Rattle.event.specs.BigEndian.{bigEndian, numberOf}
 use Rattle.event.specs.Event.{given}
 use Rattle.event.specs.declared.Event.{Event}
 use Rattle.steps.specs.Answer.{saidBy}
-use Rattle.steps.specs.State.{Result, State, leaves, withPhase, withPointer}
-use Rattle.steps.specs.Effects.{Search, allEntered, effect, entered, lowered, nextOf, othersDown, recordAt, released, seekTarget, started, startedAt, wake}
+use Rattle.steps.specs.State.{Result, State, leaves, withPointer}
+use Rattle.steps.specs.Effects.{Search, allEntered, busyFor, effect, entered, lowered, nextOf, othersDown, reading, recordAt, released, started, startedAt, wake}
 use Rattle.steps.specs.Step.{refuse, stepBy}
 use Rattle.steps.specs.declared.Answer.{Answer}
 use Rattle.steps.proofs.Lowest.{Decided, accepted, accepted-none, decided, none-accepted, refused}
-use Rattle.steps.proofs.Chains.{receive-chain, seek-chain, take-chain, want-chain}
+use Rattle.steps.proofs.Stored.{other-phase, placed}
+use Rattle.steps.proofs.Chains.{atLane, receive-chain, seek-chain, take-chain, want-chain, whenOpen}
 
 -- ---- accepted events
 abbrev pub Accepts : Search → State → Event → Type 0
@@ -158,3 +159,125 @@ take-lowers search x i c a =
 pub free-lowers : (search : Search) (x : State) (i : ℕ) → Accepts search x (Event.Free i) → getD (leftBy search x (Event.Free i) .line .flag) i 0 ≡ 0
 free-lowers search x i a =
     by-effect search x (Event.Free i) (λ (r : Result). getD (r .after .line .flag) i 0 ≡ 0) a (released-down search (x .line) i Phase.Idle (x .line .pointer))
+
+-- the wake carries the pointer as the release leaves it
+carries : (search : Search) (l : Line) (i w : ℕ) (y : Phase) (k : Place) (p : Purpose) → w ≢ i → w < length (l .lane) → phaseAt l w ≡ Phase.Waiting p
+    → search (l .lanes) (set (l .flag) i 0) i ≡ Wakes.Lane w → phaseAt (released search (lowered l i y k) i) w ≡ Phase.Woken p k
+carries search l i w y k p n h e q =
+    let between = other-phase l i w y n ∙ e in
+    let g : w < length (placed l i y) = rw (length-set (l .lane) i (lane y)) h in
+    rw (q, between) (ap (λ (a : Lane). a .phase) (getD-set-same (placed l i y) w (lane (Phase.Woken p k)) idleLane g))
+
+module _ (search : Search) (x : State) (i w : ℕ) (p q : Purpose) (v : Place) (h : w < length (x .line .lane)) (waits : phaseAt (x .line) w ≡ Phase.Waiting p) where
+  others : phaseAt (x .line) i ≡ Phase.Holding q v → w ≢ i
+  others holds z = let e : Phase.Waiting p ≡ Phase.Holding q v = sym waits ∙ ap (phaseAt (x .line)) z ∙ holds in
+      let o : _≡_ {A = ℕ} 0 1 = cc in omega arith
+
+  pub take-carries : (c : ℕ) → phaseAt (x .line) i ≡ Phase.Holding q v → stepBy search x (given (Event.Take i c)) .answer ≡ Answer.Region v c (Wakes.Lane w)
+      → phaseAt (leftBy search x (Event.Take i c) .line) w ≡ Phase.Woken p (place (v .0 + c))
+  take-carries c holds e =
+      let a : Accepts search x (Event.Take i c) = ap (λ (b : Answer). saidBy b .accepted) e in
+      let r = sym (take-region search x i c a) ∙ e in
+      let s : search (x .line .lanes) (set (x .line .flag) i 0) i ≡ Wakes.Lane w = cc in
+      by-effect search x (Event.Take i c) (λ (r : Result). phaseAt (r .after .line) w ≡ Phase.Woken p (place (v .0 + c))) a
+      (rw holds (carries search (x .line) i w (busyFor q c v) (place (v .0 + c)) p (others holds) h waits s))
+
+  pub free-carries : phaseAt (x .line) i ≡ Phase.Holding q v → stepBy search x (given (Event.Free i)) .answer ≡ Answer.Freed (Wakes.Lane w)
+      → phaseAt (leftBy search x (Event.Free i) .line) w ≡ Phase.Woken p (x .line .pointer)
+  free-carries holds e =
+      let a : Accepts search x (Event.Free i) = ap (λ (b : Answer). saidBy b .accepted) e in
+      let r = sym (free-wakes search x i a) ∙ e in
+      let s : search (x .line .lanes) (set (x .line .flag) i 0) i ≡ Wakes.Lane w = cc in
+      by-effect search x (Event.Free i) (λ (r : Result). phaseAt (r .after .line) w ≡ Phase.Woken p (x .line .pointer)) a
+      (carries search (x .line) i w Phase.Idle (x .line .pointer) p (others holds) h waits s)
+
+-- ---- 06 and 08: a read uses one record up, whether it finds one or none; a look uses nothing
+module _ (search : Search) (x : State) (i : ℕ) (k : Place) (h : i < length (x .line .lane)) (a : Accepts search x (Event.Read i)) where
+  uses-one : (n : ℕ) → phaseAt (x .line) i ≡ Phase.BusyReading n k → phaseAt (leftBy search x (Event.Read i) .line) i ≡ reading (n - 1) (place (k .0 + 1))
+  uses-one n e =
+      by-effect search x (Event.Read i) (λ (r : Result). phaseAt (r .after .line) i ≡ reading (n - 1) (place (k .0 + 1))) a
+      (rw e (ap (λ (b : Lane). b .phase) (getD-set-same (x .line .lane) i (lane (reading (n - 1) (place (k .0 + 1)))) idleLane h)))
+
+  pub read-uses-one : (n : ℕ) → 1 < n → phaseAt (x .line) i ≡ Phase.BusyReading n k → phaseAt (leftBy search x (Event.Read i) .line) i ≡ Phase.BusyReading (n - 1) (place (k .0 + 1))
+  read-uses-one n m e = uses-one n e ∙ rw (ne-eqb (n - 1) 0 (λ z. omega arith))
+
+  pub read-last-idle : phaseAt (x .line) i ≡ Phase.BusyReading 1 k → phaseAt (leftBy search x (Event.Read i) .line) i ≡ Phase.Idle
+  read-last-idle e = uses-one 1 e
+
+  -- and it answers none just where the record ends past the size
+  pub read-none : (n : ℕ) → phaseAt (x .line) i ≡ Phase.BusyReading n k → x .line .size < recordEnd (x .line .view) k → stepBy search x (given (Event.Read i)) .answer ≡ Answer.None
+  read-none n e z =
+      by-effect search x (Event.Read i) (λ (r : Result). r .answer ≡ Answer.None) a
+      (rw (e, lt-leb (recordEnd (x .line .view) k) (x .line .size) z))
+
+pub look-uses-nothing : (search : Search) (x : State) (i : ℕ) (k : Place) → leftBy search x (Event.Look i k) ≡ x
+look-uses-nothing search x i k = go (decided search x (given (Event.Look i k)))
+  where
+    go : {r : Result} → Decided search x (given (Event.Look i k)) r → r .after ≡ x
+    go (refused n w) = refl
+    go (accepted f) = refl
+
+-- ---- 0A: lane r starts at the pointer plus the counts of the lanes below r
+started-at : (k : ℕ) (ls : List Lane) (r : ℕ) → (getD (started k ls) r idleLane) .phase ≡ startedAt (k + gatheredTotal (take r ls)) ((getD ls r idleLane) .phase)
+unfolding started
+started-at k [] r = refl
+started-at k (l ∷ ls) zero = rw (add-zero k)
+started-at k (l ∷ ls) (suc r) =
+    let z : k + countIn (l .phase) + gatheredTotal (take r ls) ≡ k + (countIn (l .phase) + gatheredTotal (take r ls)) = omega arith in
+    rw (← z) (started-at (k + countIn (l .phase)) ls r)
+
+pub record Starts (x : State) (ls : List Lane) (r : Result) : Type 0 where
+  pub answers : r .answer ≡ Answer.Ordered (x .line .pointer) (gatheredTotal ls)
+  pub lanes : (j : ℕ) → phaseAt (r .after .line) j ≡ startedAt (x .line .pointer .0 + gatheredTotal (take j ls)) ((getD ls j idleLane) .phase)
+  pub pointer : r .after .line .pointer ≡ place (x .line .pointer .0 + gatheredTotal ls)
+
+pub ordered-starts : (search : Search) (x : State) (i c : ℕ) → Accepts search x (Event.Enter i c) → allEntered (x .line) (entered (x .line) i c) ≡ true
+    → Starts x (entered (x .line) i c) (stepBy search x (given (Event.Enter i c)))
+ordered-starts search x i c a all-in =
+    by-effect search x (Event.Enter i c) (λ (r : Result). Starts x (entered (x .line) i c) r) a
+    (rw all-in (record { answers = refl; lanes = λ j. started-at (x .line .pointer .0) (entered (x .line) i c) j; pointer = refl }))
+
+-- ---- the order of refusals
+module _ (search : Search) (x : State) (i : ℕ) (S : sound (x .line) (length (x .book)) ≡ true) (inside : i < x .line .lanes) where
+  -- the first three tests are passed
+  reaches : (r : Result) → atLane x i r ≡ r
+  reaches r = rw (S, ne-eqb (x .line .lanes) 0 (λ z. omega arith), lt-leb (x .line .lanes) i inside)
+
+  -- 9 comes before 12 and 13
+  pub want-9 : (purpose : ℕ) → 2 < purpose → stepBy search x (given (Event.Want i purpose)) ≡ refuse 9 x
+  want-9 purpose h = want-chain search x i purpose ∙ reaches _ ∙ rw (lt-ltb 2 purpose h)
+
+  -- 12 comes before 13, for the gathered lane too
+  pub want-12 : (purpose : ℕ) → purpose ≤ 2 → any (on isGathered) (x .line .lane) ≡ true → stepBy search x (given (Event.Want i purpose)) ≡ refuse 12 x
+  want-12 purpose h g = want-chain search x i purpose ∙ reaches _ ∙ rw (le-ltb 2 purpose h, g)
+
+  -- 14 is for a waiting lane, 13 for the others that have no wake
+  pub receive-14 : (p : Purpose) → phaseAt (x .line) i ≡ Phase.Waiting p → stepBy search x (given (Event.Receive i)) ≡ refuse 14 x
+  receive-14 p e = receive-chain search x i ∙ reaches _ ∙ rw e
+
+  pub receive-13 : isWoken (phaseAt (x .line) i) ≡ false → isWaiting (phaseAt (x .line) i) ≡ false → stepBy search x (given (Event.Receive i)) ≡ refuse 13 x
+  receive-13 e f = receive-chain search x i ∙ reaches _ ∙ rw (e, f)
+
+  -- and 14 is for 03 alone: a take by a waiting lane is 13
+  pub take-13 : (c : ℕ) (p : Purpose) → phaseAt (x .line) i ≡ Phase.Waiting p → stepBy search x (given (Event.Take i c)) ≡ refuse 13 x
+  take-13 c p e = take-chain search x i c ∙ reaches _ ∙ rw e
+
+-- 8 comes before 9
+pub want-8 : (search : Search) (x : State) (i purpose : ℕ) → sound (x .line) (length (x .book)) ≡ true → 0 < x .line .lanes → x .line .lanes ≤ i
+    → stepBy search x (given (Event.Want i purpose)) ≡ refuse 8 x
+want-8 search x i purpose S some past = want-chain search x i purpose ∙ rw (S, ne-eqb (x .line .lanes) 0 (λ z. omega arith), le-leb (x .line .lanes) i past)
+
+-- ---- 0C: a negative offset takes its records off the pointer, and is refused below 0
+module _ (search : Search) (x : State) (n : ℕ) (S : sound (x .line) (length (x .book)) ≡ true) (some : 0 < x .line .lanes) (idle : all (on isIdle) (x .line .lane) ≡ true) where
+  seeks : (r : Result) → whenOpen x (cond false (refuse 9 x) (cond (not (all (on isIdle) (x .line .lane))) (refuse 11 x) r)) ≡ r
+  seeks r = rw (S, ne-eqb (x .line .lanes) 0 (λ z. omega arith), idle)
+
+  pub seek-back : n < x .line .pointer .0 → x .line .pointer .0 ≤ mostPointer
+      → stepBy search x (given (Event.Seek 1 (negsuc n)))
+      ≡ leaves (Answer.Seek (place (x .line .pointer .0 - suc n))) (withPointer (x .line) (place (x .line .pointer .0 - suc n))) (x .book)
+  seek-back h m =
+      seek-chain search x 1 (negsuc n) ∙ seeks _
+      ∙ rw (le-ltb (x .line .pointer .0) (suc n) h, le-ltb mostPointer (x .line .pointer .0 - suc n) (omega arith))
+
+  pub seek-below : x .line .pointer .0 ≤ n → stepBy search x (given (Event.Seek 1 (negsuc n))) ≡ refuse 15 x
+  seek-below h = seek-chain search x 1 (negsuc n) ∙ seeks _ ∙ rw (lt-ltb (x .line .pointer .0) (suc n) (omega arith))
