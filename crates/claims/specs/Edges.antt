@@ -4,21 +4,22 @@ use mathlib.Core.Path.{_≡_}
 use mathlib.Core.Logic.{_≢_}
 use mathlib.Core.Bool.{Bool, true}
 use mathlib.Core.List.{List, [], _∷_, map}
-use lib.ListN.{length, replicate, take}
+use lib.ListN.{getD, length, replicate, take}
 use lib.IntN.{ℤ, pos, negℤ}
 use Rattle.lists.specs.Lists.{sumOf}
 use Rattle.view.specs.View.{block, place, plainView, position}
+use Rattle.view.specs.declared.Place.{Place}
 use Rattle.line.specs.declared.Purpose.{Purpose}
 use Rattle.line.specs.declared.Phase.{Phase}
-use Rattle.line.specs.Line.{phaseAt, Shaped, unopened}
+use Rattle.line.specs.Line.{isWaiting, phaseAt, Shaped, unopened}
 use Rattle.line.specs.Sound.{sound}
 use Rattle.waitlist.specs.declared.Wakes.{Wakes}
 use Rattle.event.specs.Event.{given}
 use Rattle.event.specs.declared.Blocks.{Blocks}
 use Rattle.event.specs.declared.Event.{Event}
 use Rattle.steps.specs.State.{Result, State}
-use Rattle.steps.specs.Effects.{purposeOf}
-use Rattle.steps.specs.Refusals.{laneOf, namesLane}
+use Rattle.steps.specs.Effects.{purposeOf, writing}
+use Rattle.steps.specs.Refusals.{field, laneOf, namesLane}
 use Rattle.steps.specs.Step.{afterCalls, callBytes, callEvent, calls}
 use Rattle.steps.specs.declared.Answer.{Answer}
 use Rattle.sheet.specs.Print.{linebook}
@@ -53,6 +54,23 @@ pub record Alone (x : State) : Type 0 where
   pub shaped : Shaped (x .line)
   pub sound : isSound x ≡ true
   pub one : x .line .lanes ≡ 1
+
+-- a sound line of 64 lanes on which lane i holds, whatever else it is
+pub record Holder (x : State) (i : ℕ) : Type 0 where
+  pub shaped : Shaped (x .line)
+  pub sound : isSound x ≡ true
+  pub lanes : x .line .lanes ≡ 64
+  pub purpose : Purpose
+  pub value : Place
+  pub holds : phaseAt (x .line) i ≡ Phase.Holding purpose value
+
+abbrev pub Waits : State → ℕ → Type 0
+Waits x i = isWaiting (phaseAt (x .line) i) ≡ true
+
+-- a release by lane i, by an 04 or by an 09, wakes lane w
+pub record Release (x : State) (i w : ℕ) : Type 0 where
+  pub take : (c : ℕ) (start : Place) (count : ℕ) (a : Wakes) → answerTo x (Event.Take i c) ≡ Answer.Region start count a → a ≡ Wakes.Lane w
+  pub free : (a : Wakes) → answerTo x (Event.Free i) ≡ Answer.Freed a → a ≡ Wakes.Lane w
 
 -- N = 64: lane 63 holds for this purpose, 0 and 62 wait
 abbrev pub at63 : ℕ → State
@@ -105,16 +123,22 @@ enter1 = Event.Enter 1 0
 abbrev pub enter2 : Event
 enter2 = Event.Enter 2 3
 
+-- the counts of lanes 0, 1, 2
+abbrev pub counts : List ℕ
+counts = map (field 1) (enter0 ∷ enter1 ∷ enter2 ∷ [])
+
 -- "pointer + the counts of lanes below r"
-abbrev pub startOf : ℕ → List ℕ → ℕ → ℕ
-startOf pointer counts r = pointer + sumOf (λ (n : ℕ). n) (take r counts)
+abbrev pub startOf : ℕ → ℕ
+startOf r = pointer10 .line .pointer .0 + sumOf (λ (n : ℕ). n) (take r counts)
+
+-- a writer of 2 from place 10, an idle lane, a writer of 3 from place 12
+abbrev pub writers : List Phase
+writers = Phase.BusyWriting 2 (place 10) ∷ Phase.Idle ∷ Phase.BusyWriting 3 (place 12) ∷ []
 
 -- the three entries in one order: the third completes the call
 pub record Entered (a b c : Event) : Type 0 where
   pub answers : answersTo pointer10 (a ∷ b ∷ c ∷ []) ≡ Answer.Gathered ∷ Answer.Gathered ∷ Answer.Ordered (place 10) 5 ∷ []
-  pub lanes :
-      phasesOf (afterEvents pointer10 (a ∷ b ∷ c ∷ [])) (0 ∷ 1 ∷ 2 ∷ [])
-      ≡ Phase.BusyWriting 2 (place 10) ∷ Phase.Idle ∷ Phase.BusyWriting 3 (place 12) ∷ []
+  pub lanes : phasesOf (afterEvents pointer10 (a ∷ b ∷ c ∷ [])) (0 ∷ 1 ∷ 2 ∷ []) ≡ writers
   pub pointer : afterEvents pointer10 (a ∷ b ∷ c ∷ []) .line .pointer ≡ place 15
   pub sound : isSound (afterEvents pointer10 (a ∷ b ∷ c ∷ [])) ≡ true
 
@@ -133,11 +157,13 @@ pub record StarredEdges : Type 0 where
   pub sound-63 : map (λ (purpose : ℕ). isSound (at63 purpose)) (0 ∷ 2 ∷ []) ≡ true ∷ true ∷ []
   pub take-63 : answerTo (at63 0) (Event.Take 63 1) ≡ Answer.Region (place 0) 1 (Wakes.Lane 0)
   pub free-63 : answerTo (at63 2) (Event.Free 63) ≡ Answer.Freed (Wakes.Lane 0)
+  pub every-63 : (x : State) → Holder x 63 → Waits x 0 → Waits x 62 → Release x 63 0
   -- "Lane 5 releases, only 4 waits: wakes 4"
   pub line-5 : phasesOf (at5 0) (4 ∷ 5 ∷ []) ≡ Phase.Waiting Purpose.SharedRead ∷ Phase.Holding Purpose.SharedWrite (place 0) ∷ []
   pub sound-5 : map (λ (purpose : ℕ). isSound (at5 purpose)) (0 ∷ 2 ∷ []) ≡ true ∷ true ∷ []
   pub take-5 : answerTo (at5 0) (Event.Take 5 1) ≡ Answer.Region (place 0) 1 (Wakes.Lane 4)
   pub free-5 : answerTo (at5 2) (Event.Free 5) ≡ Answer.Freed (Wakes.Lane 4)
+  pub every-5 : (x : State) → Holder x 5 → Waits x 4 → ((j : ℕ) → Waits x j → j ≡ 4) → Release x 5 4
   -- "Displacement 4, extent 5, blocks (1, 2) and (4, 1): places 0, 1, 2, 3 lie at 12, 20, 36, 52"
   pub view-puts : (content : ℕ)
       → map (λ (k : ℕ). answerTo (viewed 2) (Event.Put 0 (place k) content)) (0 ∷ 1 ∷ 2 ∷ 3 ∷ [])
@@ -176,7 +202,8 @@ pub record StarredEdges : Type 0 where
   pub order-120 : Entered enter1 enter2 enter0
   pub order-201 : Entered enter2 enter0 enter1
   pub order-210 : Entered enter2 enter1 enter0
-  pub starts : map (startOf 10 (2 ∷ 0 ∷ 3 ∷ [])) (0 ∷ 1 ∷ 2 ∷ []) ≡ 10 ∷ 12 ∷ 12 ∷ []
+  pub starts : map startOf (0 ∷ 1 ∷ 2 ∷ []) ≡ 10 ∷ 12 ∷ 12 ∷ []
+  pub from-starts : map (λ (r : ℕ). writing (getD counts r 0) (place (startOf r))) (0 ∷ 1 ∷ 2 ∷ []) ≡ writers
 
 -- ---- the edges that bear no star
 pub record OtherEdges : Type 0 where

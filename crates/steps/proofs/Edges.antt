@@ -139,7 +139,7 @@ pub free-alone : (x : State) (i : ℕ) → othersDown (x .line) i ≡ true → A
 free-alone x i h a = free-wakes nextLane x i a ∙ ap Answer.Freed (none-next (x .line .lanes) (set (x .line .flag) i 0) i h)
 
 -- the releaser's flag is down afterwards
-set-down : (f : List ℕ) (i : ℕ) → getD (set f i 0) i 0 ≡ 0
+pub set-down : (f : List ℕ) (i : ℕ) → getD (set f i 0) i 0 ≡ 0
 set-down [] i = refl
 set-down (b ∷ bs) zero = refl
 set-down (b ∷ bs) (suc i) = set-down bs i
