@@ -1,3 +1,4 @@
 -- The proofs of the claims.
 pub mod ExampleSheet
+pub mod Edges
 pub mod Trials

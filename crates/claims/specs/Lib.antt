@@ -1,3 +1,4 @@
 -- The claims about the definitions.
 pub mod ExampleSheet
+pub mod Edges
 pub mod Trials

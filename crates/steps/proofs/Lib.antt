@@ -1,7 +1,9 @@
 -- The laws of a step.
 pub mod Lowest
+pub mod Chains
 pub mod Cases
 pub mod Stored
+pub mod Edges
 pub mod Release
 pub mod Ordered
 pub mod Keeps
