@@ -187,8 +187,9 @@ module _ (x : State) (G : GoodState x) (ns : List Entered) (C : Gathers ns (x .l
   unfolding countFor
   enter-counts j c h r =
       elim (ℕ-discrete j r) [
-          yes z ↦ rw (eq-eqb j r z, ← z, same-phase (x .line) (G .facts .base) j (Phase.Gathered c) h)
-        | no z ↦ rw (ne-eqb j r z, other-phase (x .line) j r (Phase.Gathered c) (λ u. z (sym u))) (C .each r) ]
+        | yes z ↦ rw (eq-eqb j r z, ← z, same-phase (x .line) (G .facts .base) j (Phase.Gathered c) h)
+        | no z ↦ rw (ne-eqb j r z, other-phase (x .line) j r (Phase.Gathered c) (λ u. z (sym u))) (C .each r)
+      ]
 
   nothing-handed : map (λ (h : Handed). h .place) (handed []) ≡ range (x .line .pointer .0) 0
   unfolding handed range
@@ -201,9 +202,9 @@ module _ (x : State) (G : GoodState x) (ns : List Entered) (C : Gathers ns (x .l
   complete-moves j c h q g d =
       let ms : List Entered = record { lane = j; count = c } ∷ ns in
       let sum : total (shares ms 0 (x .line .pointer .0) (x .line .lanes)) ≡ gatheredTotal (entered (x .line) j c) =
-        shares-total (entered (x .line) j c) ms 0 (x .line .pointer .0) (x .line .lanes)
-        (λ r. let z : 0 + r ≡ r = omega arith in rw z (enter-counts j c h r))
-        (λ r p. ap countIn (other-phase (x .line) j r (Phase.Gathered c) (λ u. omega arith) ∙ G .facts .base .past r p)) in
+      shares-total (entered (x .line) j c) ms 0 (x .line .pointer .0) (x .line .lanes)
+      (λ r. let z : 0 + r ≡ r = omega arith in rw z (enter-counts j c h r))
+      (λ r p. ap countIn (other-phase (x .line) j r (Phase.Gathered c) (λ u. omega arith) ∙ G .facts .base .past r p)) in
       record {
         pointer = rw sum;
         in-order = shares-range ms 0 (x .line .pointer .0) (x .line .lanes);

@@ -123,14 +123,14 @@ pub shown : (g : Given) (said : Said) (e : Event) → callIn g ≡ given e → i
 shown g said e q t =
     by-test (isListed (g .kind))
     (λ l. by-test (leb (bodyLength (g .kind)) (length (g .body)))
-      (λ h. let w : given (eventOf (g .kind) (fieldsIn (fieldLengths (g .kind)) (g .body))) ≡ given e = rw (l, h) at q in
-        let z : eventOf (g .kind) (fieldsIn (fieldLengths (g .kind)) (g .body)) ≡ e = cc in
-        rw z at (shows (g .body) said (g .kind) l (leb-true (bodyLength (g .kind)) (length (g .body)) h)))
-      (λ h. let w : cutShort ≡ given e = rw (l, h) at q in
-        let z : _≡_ {A = ℕ} 0 1 = cc in absurd (omega arith)))
+    (λ h. let w : given (eventOf (g .kind) (fieldsIn (fieldLengths (g .kind)) (g .body))) ≡ given e = rw (l, h) at q in
+    let z : eventOf (g .kind) (fieldsIn (fieldLengths (g .kind)) (g .body)) ≡ e = cc in
+    rw z at (shows (g .body) said (g .kind) l (leb-true (bodyLength (g .kind)) (length (g .body)) h)))
+    (λ h. let w : cutShort ≡ given e = rw (l, h) at q in
+    let z : _≡_ {A = ℕ} 0 1 = cc in absurd (omega arith)))
     (λ l. let w : given Event.Unlisted ≡ given e = rw l at q in
-      let z : Event.Unlisted ≡ e = cc in
-      clash (sym (ap (λ (v : Event). isListed (kindOf v)) z ∙ t)))
+    let z : Event.Unlisted ≡ e = cc in
+    clash (sym (ap (λ (v : Event). isListed (kindOf v)) z ∙ t)))
 
 listed-or : (e : Event) → (isListed (kindOf e) ≡ true) ⊎ (e ≡ Event.Unlisted)
 listed-or (Event.Open lanes capacity) = inl refl

@@ -98,15 +98,17 @@ module _ (x : State) (G : GoodState x) (i : ℕ) where
   stored-stand : (j : ℕ) (y : Phase) → j < x .line .lanes → standOf ((getD (placed (x .line) j y) i idleLane) .phase) ≡ cond (eqb j i) (standOf y) now
   stored-stand j y h =
       elim (ℕ-discrete j i) [
-          yes z ↦ rw (eq-eqb j i z, ← z, same-phase (x .line) (G .facts .base) j y h)
-        | no z ↦ rw (ne-eqb j i z, other-phase (x .line) j i y (λ u. z (sym u))) ]
+        | yes z ↦ rw (eq-eqb j i z, ← z, same-phase (x .line) (G .facts .base) j y h)
+        | no z ↦ rw (ne-eqb j i z, other-phase (x .line) j i y (λ u. z (sym u)))
+      ]
 
   -- .. that stands as the one before
   same-stand : (j : ℕ) (o y : Phase) → j < x .line .lanes → phaseAt (x .line) j ≡ o → standOf y ≡ standOf o → now ≡ standOf ((getD (placed (x .line) j y) i idleLane) .phase)
   same-stand j o y h e f =
       sym (stored-stand j y h ∙ elim (ℕ-discrete j i) [
-          yes z ↦ rw (eq-eqb j i z, f, ← e, z)
-        | no z ↦ rw (ne-eqb j i z) ])
+        | yes z ↦ rw (eq-eqb j i z, f, ← e, z)
+        | no z ↦ rw (ne-eqb j i z)
+      ])
 
   -- ---- a release by lane k
   leaves-stand : (e : Entry) (a : Result) (k : ℕ) (o y : Phase) (q : Place) → standNext i now e ≡ cond (eqb k i) off (cond (wakes i e) (woken (purposeFor now)) now)
@@ -120,8 +122,9 @@ module _ (x : State) (G : GoodState x) (i : ℕ) where
           sn ∙ rw (w, al ∙ ap (wake (lowered (x .line) k y q)) t, stored-stand k y (L .inside), yo)
       go (Wakes.Lane w) t =
           sn ∙ elim (ℕ-discrete i w) [
-              yes z ↦ rw (names ∙ eq-eqb i w z, ne-eqb k i (λ u. C .other (sym (u ∙ z))), lines) (rw z (rw (C .was, nowWoken)))
-            | no z ↦ rw (names ∙ ne-eqb i w z, lines, other-phase (lowered (x .line) k y q) w i (wokenPhase q (phaseAt (lowered (x .line) k y q) w)) z, stored-stand k y (L .inside), yo) ]
+            | yes z ↦ rw (names ∙ eq-eqb i w z, ne-eqb k i (λ u. C .other (sym (u ∙ z))), lines) (rw z (rw (C .was, nowWoken)))
+            | no z ↦ rw (names ∙ ne-eqb i w z, lines, other-phase (lowered (x .line) k y q) w i (wokenPhase q (phaseAt (lowered (x .line) k y q) w)) z, stored-stand k y (L .inside), yo)
+          ]
         where
           C : Chosen (x .line) k w
           C = chosen (x .line) (G .facts) k o y q L w t
@@ -148,8 +151,9 @@ module _ (x : State) (G : GoodState x) (i : ℕ) where
       → cond (eqb j i) (holding (purposeFor now)) now ≡ standOf ((getD (placed (x .line) j (Phase.Holding p v)) i idleLane) .phase)
   receive-stand j p v h e =
       elim (ℕ-discrete j i) [
-          yes z ↦ rw (eq-eqb j i z, ← z, e, same-phase (x .line) (G .facts .base) j (Phase.Holding p v) h)
-        | no z ↦ rw (ne-eqb j i z, other-phase (x .line) j i (Phase.Holding p v) (λ u. z (sym u))) ]
+        | yes z ↦ rw (eq-eqb j i z, ← z, e, same-phase (x .line) (G .facts .base) j (Phase.Holding p v) h)
+        | no z ↦ rw (ne-eqb j i z, other-phase (x .line) j i (Phase.Holding p v) (λ u. z (sym u)))
+      ]
 
   pub stand-event : (e : Event) (d : Entry) (r : Result) → Steps nextLane x (given e) r → Stood now i (entryOf e d (saidBy (r .answer))) r
   stand-event e d r (refuses n) = record { is = refl }
@@ -175,8 +179,10 @@ module _ (x : State) (G : GoodState x) (i : ℕ) where
       leaves-stand _ _ j (Phase.Holding Purpose.WholeBook v) Phase.Idle (x .line .pointer) refl refl refl refl (free-leaving (x .line) (G .facts) j v h q)
   stand-event e d r (enters j c h q g f) =
       at-test (λ (t : Result). Stood now i (entryOf (Event.Enter j c) d (saidBy (t .answer))) t) (allEntered (x .line) (entered (x .line) j c)) _ _
-      (λ t. record { is = ready-off (phaseAt (x .line) i) (all-getD (on isIdleOrGathered) (x .line .lane) i idleLane g refl)
-        ∙ sym (down-off ((getD (started (x .line .pointer .0) (entered (x .line) j c)) i idleLane) .phase) (started-by (λ (y : Phase). isUp y ≡ false) refl (λ n v. refl) (x .line .pointer .0) (entered (x .line) j c) (entered-all (x .line) j c g) i)) })
+      (λ t. record {
+        is = ready-off (phaseAt (x .line) i) (all-getD (on isIdleOrGathered) (x .line .lane) i idleLane g refl)
+            ∙ sym (down-off ((getD (started (x .line .pointer .0) (entered (x .line) j c)) i idleLane) .phase) (started-by (λ (y : Phase). isUp y ≡ false) refl (λ n v. refl) (x .line .pointer .0) (entered (x .line) j c) (entered-all (x .line) j c g) i));
+      })
       (λ t. record { is = same-stand j Phase.Idle (Phase.Gathered c) h q refl })
   stand-event e d r (views displacement extent used blocks z o g) = record { is = refl }
   stand-event e d r (seeks whence offset n z t m g) = record { is = refl }

@@ -59,7 +59,7 @@ sent (g ∷ gs) x i h G wi th d = go (turn-on x G i h wi th g) (λ j. sent gs (t
   where
     go : Turn x i h (entryOn x g) (stepBy nextLane x (callIn g))
         → ((j : ℕ) → isWaiting (phaseAt (then x g .line) i) ≡ true → hasTurn (phaseAt (then x g .line) j) ≡ true
-          → distance (then x g .line .lanes) j i ≤ count isRelease (entries nextLane (then x g) gs) → 1 ≤ count (wakes i) (entries nextLane (then x g) gs))
+        → distance (then x g .line .lanes) j i ≤ count isRelease (entries nextLane (then x g) gs) → 1 ≤ count (wakes i) (entries nextLane (then x g) gs))
         → 1 ≤ bit (wakes i (entryOn x g)) + count (wakes i) (entries nextLane (then x g) gs)
     go (calm a b n w t) ih =
         let d' : distance (x .line .lanes) h i ≤ bit false + count isRelease (entries nextLane (then x g) gs) = rw a at d in
@@ -82,7 +82,7 @@ fair (g ∷ gs) x i h j G wi th z = go (turn-on x G i h wi th g) (λ k. fair gs 
 
     go : Turn x i h (entryOn x g) (stepBy nextLane x (callIn g))
         → ((k : ℕ) → isWaiting (phaseAt (then x g .line) i) ≡ true → hasTurn (phaseAt (then x g .line) k) ≡ true → later i ≡ 0
-          → (later j ≤ 1) × (distance (then x g .line .lanes) k i ≤ distance (then x g .line .lanes) j i → later j ≡ 0))
+        → (later j ≤ 1) × (distance (then x g .line .lanes) k i ≤ distance (then x g .line .lanes) j i → later j ≡ 0))
         → (bit (wakes j (entryOn x g)) + later j ≤ 1) × (distance (x .line .lanes) h i ≤ distance (x .line .lanes) j i → bit (wakes j (entryOn x g)) + later j ≡ 0)
     go (calm a b n w t) ih =
         let r = ih h w t (omega arith) in rw (b j) (omega (arith, r .0), λ d. let q = r .1 (rw n d) in omega arith)
@@ -90,9 +90,10 @@ fair (g ∷ gs) x i h j G wi th z = go (turn-on x G i h wi th g) (λ k. fair gs 
     go (nearer k a b ne n w t near) ih =
         let r = ih k w t (omega arith) in
         elim (ℕ-discrete j k) [
-            yes y ↦ rw (b j, eq-eqb j k y)
+          | yes y ↦ rw (b j, eq-eqb j k y)
               (let q = r .1 (rw (y, n) (omega arith)) in omega arith, λ d. absurd (let near' : distance (x .line .lanes) j i < distance (x .line .lanes) h i = rw (← y) at near in omega arith))
-          | no y ↦ rw (b j, ne-eqb j k y) (omega (arith, r .0), λ d. let q = r .1 (rw n (omega arith)) in omega arith) ]
+          | no y ↦ rw (b j, ne-eqb j k y) (omega (arith, r .0), λ d. let q = r .1 (rw n (omega arith)) in omega arith)
+        ]
 
 -- a lane that does not wait is not woken before its next accepted want
 pub never : (gs : List Given) (x : State) (i : ℕ) → GoodState x → isWaiting (phaseAt (x .line) i) ≡ false → count (wantsBy i) (entries nextLane x gs) ≡ 0

@@ -93,12 +93,12 @@ turn-found l F u = let r = count-find (on hasTurn) (l .lane) idleLane (omega (ar
 pub data Turn (x : State) (i h : ℕ) (e : Entry) (r : Result) : Type 0 where
   -- no release: both stay as they are
   calm : isRelease e ≡ false → ((j : ℕ) → wakes j e ≡ false) → r .after .line .lanes ≡ x .line .lanes → isWaiting (phaseAt (r .after .line) i) ≡ true
-    → hasTurn (phaseAt (r .after .line) h) ≡ true → Turn x i h e r
+      → hasTurn (phaseAt (r .after .line) h) ≡ true → Turn x i h e r
   -- a release that wakes i
   its : isRelease e ≡ true → wakes i e ≡ true → isWaiting (phaseAt (r .after .line) i) ≡ false → Turn x i h e r
   -- a release that wakes another lane, nearer to i
   nearer : (w : ℕ) → isRelease e ≡ true → ((j : ℕ) → wakes j e ≡ eqb j w) → w ≢ i → r .after .line .lanes ≡ x .line .lanes → isWaiting (phaseAt (r .after .line) i) ≡ true
-    → hasTurn (phaseAt (r .after .line) w) ≡ true → distance (x .line .lanes) w i < distance (x .line .lanes) h i → Turn x i h e r
+      → hasTurn (phaseAt (r .after .line) w) ≡ true → distance (x .line .lanes) w i < distance (x .line .lanes) h i → Turn x i h e r
 
 -- the lanes that a release's values name
 woken-lane : (e : Entry) (w j : ℕ) → wokenBy e ≡ wakesValues (Wakes.Lane w) → wakes j e ≡ eqb j w
@@ -141,10 +141,11 @@ module _ (x : State) (G : GoodState x) (i h : ℕ) (wi : isWaiting (phaseAt (x .
       go Wakes.None t = absurd (alone (x .line) (G .facts) k o y q L t i inside ik (waits-up (phaseAt (x .line) i) wi))
       go (Wakes.Lane w) t =
           elim (ℕ-discrete w i) [
-              yes z ↦ its re (names i ∙ eq-eqb i w (sym z)) (rw (lines, ← z, now))
+            | yes z ↦ its re (names i ∙ eq-eqb i w (sym z)) (rw (lines, ← z, now))
             | no z ↦ nearer w re names z (ap (λ (l : Line). l .lanes) lines)
-              (rw (lines, there i (λ u. z (sym u)), still) wi) (rw (lines, now))
-              (rw (← kh) (C .nearer i inside (waits-up (phaseAt (x .line) i) wi) ik (λ u. z (sym u)))) ]
+                (rw (lines, there i (λ u. z (sym u)), still) wi) (rw (lines, now))
+                (rw (← kh) (C .nearer i inside (waits-up (phaseAt (x .line) i) wi) ik (λ u. z (sym u))))
+          ]
         where
           C : Chosen (x .line) k w
           C = chosen (x .line) (G .facts) k o y q L w t

@@ -227,17 +227,34 @@ module _ (search : Search) (book : List ℕ) where
   abbrev pub pointerAfter : List Given → ℕ
   pointerAfter early = afterAll search (start book) early .line .pointer .0
 
+  -- N after the calls `early`; and among the calls `later` that follow: the accepted releases, the wakes of lane j, its accepted wants
+  abbrev pub lanesAfter : List Given → ℕ
+  lanesAfter early = lanesIn 0 (entriesOf early)
+
+  abbrev pub releases : List Given → List Given → ℕ
+  releases early later = count isRelease (entriesAfter early later)
+
+  abbrev pub wakesOf : ℕ → List Given → List Given → ℕ
+  wakesOf j early later = count (wakes j) (entriesAfter early later)
+
+  abbrev pub wantsOf : ℕ → List Given → List Given → ℕ
+  wantsOf j early later = count (wantsBy j) (entriesAfter early later)
+
+  -- what `later` hands out, where no lane was gathered before it
+  abbrev pub grantsIn : List Given → List Given → List Grant
+  grantsIn early later = grants (lanesAfter early) [] (entriesAfter early later)
+
   -- lane i was told to wait by the last of the calls `early`; `later` are the calls that follow, as far as they are looked at
   pub record WaitEnds (i : ℕ) (early later : List Given) : Type 0 where
     -- the lane then holding or being woken
     pub holder : ℕ
     pub one : OnlyTurn (entriesOf early) holder
     -- no later than at the d-th accepted release its wake is sent
-    pub sent : distance (lanesIn 0 (entriesOf early)) holder i ≤ count isRelease (entriesAfter early later) → 1 ≤ count (wakes i) (entriesAfter early later)
+    pub sent : distance (lanesAfter early) holder i ≤ releases early later → 1 ≤ wakesOf i early later
     -- no second one before its next accepted want
-    pub single : count (wantsBy i) (entriesAfter early later) ≡ 0 → count (wakes i) (entriesAfter early later) ≤ 1
+    pub single : wantsOf i early later ≡ 0 → wakesOf i early later ≤ 1
     -- until its wake each other lane is woken at most once
-    pub fair : count (wakes i) (entriesAfter early later) ≡ 0 → (j : ℕ) → count (wakes j) (entriesAfter early later) ≤ 1
+    pub fair : wakesOf i early later ≡ 0 → (j : ℕ) → wakesOf j early later ≤ 1
 
   -- after the calls `early` a lane waits: exactly one lane holds or is being woken, and its next call would be accepted
   pub record GoesOn (early : List Given) : Type 0 where
@@ -245,21 +262,21 @@ module _ (search : Search) (book : List ℕ) where
     pub one : OnlyTurn (entriesOf early) holder
     pub next : saidTo search (afterAll search (start book) early) (onward holder (stand holder off (entriesOf early))) .accepted ≡ true
 
-  -- the places handed out by `later`, after `early`, which ends with an opening, a change of view or a seek
+  -- the places handed out by `later`, after `early`, which ends with an opening, a change of view or a seek: first, first + 1, .. last − 1
   pub record InOrder (early later : List Given) : Type 0 where
-    pub places : map (λ (h : Handed). h .place) (handed (grants (lanesIn 0 (entriesOf early)) [] (entriesAfter early later))) ≡ range (pointerAfter early) (pointerAfter (early ++ later) - pointerAfter early)
-    pub last : pointerAfter (early ++ later) ≡ pointerAfter early + sumOf (λ (g : Grant). g .count) (grants (lanesIn 0 (entriesOf early)) [] (entriesAfter early later))
+    pub places : map (λ (h : Handed). h .place) (handed (grantsIn early later)) ≡ range (pointerAfter early) (pointerAfter (early ++ later) - pointerAfter early)
+    pub last : pointerAfter (early ++ later) ≡ pointerAfter early + sumOf (λ (g : Grant). g .count) (grantsIn early later)
 
   pub record Demand3 (calls : List Given) : Type 0 where
     -- whenever a lane i is told to wait, by the answer to the call `told`
     pub waits-end : (early later rest : List Given) (told : Given) (i : ℕ) → calls ≡ (early ++ told ∷ []) ++ (later ++ rest)
-      → tellsToWait i (entryAfter early told) ≡ true → WaitEnds i (early ++ told ∷ []) later
+        → tellsToWait i (entryAfter early told) ≡ true → WaitEnds i (early ++ told ∷ []) later
     -- at each point of the list, while any lane waits
     pub goes-on : (early rest : List Given) (i : ℕ) → calls ≡ early ++ rest → isWaiting (stand i off (entriesOf early)) ≡ true → GoesOn early
     -- from an opening, seek or change of view to the next of these or the list's end
     pub in-order : (early later rest : List Given) (first : Given) → calls ≡ (early ++ first ∷ []) ++ (later ++ rest)
-      → isReset (entryAfter early first) ≡ true → count isReset (entriesAfter (early ++ first ∷ []) later) ≡ 0
-      → InOrder (early ++ first ∷ []) later
+        → isReset (entryAfter early first) ≡ true → count isReset (entriesAfter (early ++ first ∷ []) later) ≡ 0
+        → InOrder (early ++ first ∷ []) later
 
 -- of the line's own search
 abbrev pub DemandThree : Type 0
