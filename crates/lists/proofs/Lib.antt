@@ -1,0 +1,2 @@
+-- The laws on lists.
+pub mod Laws
