@@ -8,7 +8,7 @@ use native.Mathlib.Omega.{arith}
 use native.Mathlib.Decide.{decLt}
 use native.Mathlib.Nat.{not-suc-le-zero, le-of-suc-le-suc, suc-inj, mul-suc}
 use native.Mathlib.Numerals.{add-one}
-use lib.ListN.{length, getD, set, take, drop}
+use lib.ListN.{length, getD, set, take, drop, length-map}
 use lib.Seq.{drop-cons, getD-take, length-take-le}
 use Rattle.lists.specs.Lists.{every, all, any, count, bit, pairwise, sumOf}
 
@@ -169,3 +169,7 @@ module _ {A : Type 0} where
   map-set f [] i a = refl
   map-set {B} f (x ∷ xs) zero a = refl
   map-set {B} f (x ∷ xs) (suc i) a = ap (λ (r : List B). f x ∷ r) (map-set f xs i a)
+
+  -- what owning an array of structs, as a field, says of its list
+  pub length-unmapped : {B : Type 0} (f : A → B) (l : List A) (n : ℕ) → length (map f l) ≡ n → length l ≡ n
+  length-unmapped f l n e = sym (length-map l f) ∙ e

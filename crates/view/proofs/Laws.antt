@@ -12,10 +12,12 @@ use borrow.Author.Tests.{leb-true, eqb-true, le-leb, lt-ltb, le-ltb}
 use Rattle.lists.specs.Lists.{all, every, sumOf}
 use Rattle.lists.proofs.Laws.{and-left, and-right, and-both, every-at, below-or-not, true-false}
 use Rattle.view.specs.declared.Block.{Block}
+use Rattle.view.specs.declared.Place.{Place}
 use Rattle.view.specs.declared.View.{View}
 use Rattle.view.specs.View.{place, usedBlocks, unusedBlocks, isUnused, isPlain, isPlainBlocks, plainView, inOrder, viewOk, shown, blockRecord, positionOf, fits}
 
-abbrev lengths : List Block → ℕ
+-- the sum of the blocks' lengths
+abbrev pub lengths : List Block → ℕ
 lengths bs = sumOf (λ (b : Block). b .length) bs
 
 -- ---- the blocks of a tile
@@ -50,7 +52,7 @@ record-in extent end (b ∷ bs) q h p =
     let f = front extent end b bs h in
     ⊎-elim
     (λ t. rw (lt-ltb q (b .length) t) (omega (arith, f .after), omega (arith, order-end extent (b .start + b .length) bs (f .rest))))
-    (λ t.
+    (λ (t : b .length ≤ q).
     let more : q - b .length < lengths bs = omega arith in
     let r = record-in extent (b .start + b .length) bs (q - b .length) (f .rest) more in
     rw (le-ltb q (b .length) t) (omega (arith, f .after, r .0), r .1))
@@ -63,12 +65,12 @@ record-rises extent end (b ∷ bs) q r h lt p =
     let f = front extent end b bs h in
     let last = b .start + b .length in
     ⊎-elim
-    (λ u.
+    (λ (u : r < b .length).
     let t : q < b .length = omega arith in
     rw (lt-ltb q (b .length) t, lt-ltb r (b .length) u) (omega arith))
-    (λ u.
+    (λ (u : b .length ≤ r).
     ⊎-elim
-    (λ t.
+    (λ (t : q < b .length).
     rw (lt-ltb q (b .length) t, le-ltb r (b .length) u)
     (omega (arith, record-in extent last bs (r - b .length) (f .rest) (omega arith) .0)))
     (λ t.
@@ -177,6 +179,11 @@ module _ (capacity : ℕ) (v : View) (ok : viewOk capacity v ≡ true) (len : le
 -- the last record of a run that fits ends at or below the capacity
 pub fits-end : (v : View) (capacity k t : ℕ) → fits v capacity (place k) (suc t) ≡ true → positionOf v (place (k + t)) .0 + 8 ≤ capacity
 fits-end v capacity k t e = leb-true (positionOf v (place (k + t)) .0 + 8) capacity e
+
+-- a run of at least one record fits if its last record does
+pub fits-last : (v : View) (capacity : ℕ) (k : Place) (t : ℕ) → 0 < t → fits v capacity k t ≡ leb (positionOf v (place (k .0 + (t - 1))) .0 + 8) capacity
+fits-last v capacity k zero h = absurd (omega arith)
+fits-last v capacity k (suc t) h = let e : suc t - 1 ≡ t = omega arith in rw e
 
 -- ---- the plain view meets the rules at every capacity
 plain-blocks : (bs : List Block) → isPlainBlocks bs ≡ true → (inOrder 1 0 (take 1 bs) ≡ true) × (all isUnused (drop 1 bs) ≡ true)
