@@ -1,5 +1,5 @@
 // The waitlist: which lane a release wakes.
-ghost use Prim.Native.Nat.{ℕ, _+_, _-_, _≤_};
+ghost use Prim.Native.Nat.{_+_, _-_, _≤_};
 ghost use mathlib.Core.Path.{_≡_};
 ghost use lib.ListN.{getD};
 ghost use Rattle.waitlist.specs.NextLane.{firstRaised, nextLane};

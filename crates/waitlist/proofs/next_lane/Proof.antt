@@ -1,5 +1,4 @@
 -- `next_lane` meets its contract: the second search counts where the first finds nothing.
-use mathlib.Core.Path.{_≡_, sym}
 use native.Mathlib.Nat.{sub-zero}
 use borrow.Author.Needs.{needs}
 use Rattle.waitlist.specs.NextLane.{nextLane}
