@@ -6,7 +6,7 @@ use line::Line;
 
 mod lanes;
 mod numbers;
-mod phases;
+pub mod phases;
 mod rules;
 
 use rules::Rule;
