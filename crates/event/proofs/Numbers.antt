@@ -1,0 +1,71 @@
+-- A number in big-endian bytes is read back, and bytes are written back; two's complement likewise.
+use Prim.Native.Nat.{ℕ, zero, suc, _+_, _-_, _*_, _/_, _%_, _^_, _≤_, _<_}
+use mathlib.Core.Path.{_≡_, refl, sym, _∙_, ap}
+use mathlib.Core.Bool.{Bool, true, false, cond}
+use mathlib.Core.List.{List, [], _∷_, _++_}
+use native.Mathlib.Omega.{arith}
+use native.Mathlib.Nat.{div-add-mod', div-eq-of-lt, div-lt-iff-lt-mul, mod-eq-of-lt, mod-lt, mul-add-div-right, mul-add-mod-self-right, mul-le-mul-right, one-le-pow, pow-suc}
+use lib.Dec.{leb, ltb}
+use lib.IntN.{ℤ, pos, negsuc}
+use lib.ListN.{getD, length}
+use borrow.Author.Tests.{le-ltb, lt-ltb, ltb-false, ltb-true}
+use Rattle.event.specs.BigEndian.{bigEndian, numberOf, signed, unsigned}
+use Rattle.event.specs.Typed.{AreBytes, IsI32}
+
+-- ---- numbers
+pub power-positive : (w : ℕ) → 0 < 256 ^ w
+power-positive w = one-le-pow w 256 (omega arith)
+
+pub big-endian-length : (w n : ℕ) → length (bigEndian w n) ≡ w
+unfolding bigEndian
+big-endian-length zero n = refl
+big-endian-length (suc w) n = ap suc (big-endian-length w _)
+
+pub number-of-big-endian : (w n : ℕ) → n < 256 ^ w → numberOf (bigEndian w n) ≡ n
+unfolding bigEndian numberOf
+number-of-big-endian zero n h = omega arith
+number-of-big-endian (suc w) n h =
+    rw (big-endian-length w (n % 256 ^ w), number-of-big-endian w (n % 256 ^ w) (mod-lt n (power-positive w)))
+    (div-add-mod' n (256 ^ w))
+
+pub number-below : (bytes : List ℕ) → AreBytes bytes → numberOf bytes < 256 ^ length bytes
+unfolding numberOf
+number-below [] h = omega arith
+number-below (b ∷ bs) h =
+    let digit : b ≤ 255 = omega (arith, h 0) in
+    omega
+    (arith, mul-le-mul-right (256 ^ length bs) digit, pow-suc 256 (length bs), number-below bs (λ (k : ℕ). h (suc k)))
+
+pub big-endian-of-number : (bytes : List ℕ) → AreBytes bytes → bigEndian (length bytes) (numberOf bytes) ≡ bytes
+unfolding bigEndian numberOf
+big-endian-of-number [] h = refl
+big-endian-of-number (b ∷ bs) h =
+    let positive = power-positive (length bs) in
+    let below = number-below bs (λ (k : ℕ). h (suc k)) in
+    let first : (b * 256 ^ length bs + numberOf bs) / 256 ^ length bs ≡ b =
+    omega (arith, mul-add-div-right positive b (numberOf bs), div-eq-of-lt below) in
+    let rest : (b * 256 ^ length bs + numberOf bs) % 256 ^ length bs ≡ numberOf bs =
+    mul-add-mod-self-right b (256 ^ length bs) (numberOf bs) ∙ mod-eq-of-lt below in
+    rw (first, rest, big-endian-of-number bs (λ (k : ℕ). h (suc k)))
+
+-- the bytes of a number that fits are bytes
+pub big-endian-bytes : (w n : ℕ) → n < 256 ^ w → AreBytes (bigEndian w n)
+unfolding bigEndian
+big-endian-bytes zero n h k = omega arith
+big-endian-bytes (suc w) n h zero = div-lt-iff-lt-mul (power-positive w) .1 (omega (arith, pow-suc 256 w))
+big-endian-bytes (suc w) n h (suc k) = big-endian-bytes w (n % 256 ^ w) (mod-lt n (power-positive w)) k
+
+-- ---- signed numbers
+pub signed-of-unsigned : (z : ℤ) → IsI32 z → signed (unsigned z) ≡ z
+signed-of-unsigned (pos n) h = rw (lt-ltb n 2147483648 h)
+signed-of-unsigned (negsuc n) h =
+    let high : 2147483648 ≤ 4294967295 - n = omega arith in
+    let back : 4294967295 - (4294967295 - n) ≡ n = omega arith in
+    rw (le-ltb (4294967295 - n) 2147483648 high, back)
+
+pub unsigned-of-signed : (n : ℕ) → n < 4294967296 → unsigned (signed n) ≡ n
+unsigned-of-signed n h = by-test (ltb n 2147483648) refl
+  where
+    by-test : (b : Bool) → ltb n 2147483648 ≡ b → unsigned (cond b (pos n) (negsuc (4294967295 - n))) ≡ n
+    by-test true e = refl
+    by-test false e = omega arith
