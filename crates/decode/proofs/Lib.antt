@@ -1,4 +1,2 @@
--- The laws by which fields are read one after the other.
-pub mod Numbers
-pub mod Signed
-pub mod InOrder
+-- The laws by which bodies are read.
+pub mod Bodies

@@ -1,2 +1,2 @@
--- The definitions that the readers of fields and bodies are held to.
-pub mod Fields
+-- The definitions that the readers of bodies are held to.
+pub mod Body

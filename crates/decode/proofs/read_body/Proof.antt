@@ -1,5 +1,5 @@
 -- `decode::read_body` meets its contract: an arm for each kind, and one for all others.
-use Rattle.decode.proofs.InOrder.{body-unlisted, none-listed}
+use Rattle.decode.proofs.Bodies.{body-unlisted, none-listed}
 use borrow.Author.Needs.{needs}
 use Rattle.decode.proofs.read_body.Statement.{statement}
 use Rattle.decode.proofs.read_body.Tie as tie

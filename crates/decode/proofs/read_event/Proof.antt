@@ -1,7 +1,7 @@
 -- `decode::read_event` meets its contract: the end of the sheet, or the body after the kind.
 use borrow.Author.Tests.{le-leb, lt-leb}
 use Rattle.event.specs.ReadWrite.{readAt}
-use Rattle.decode.specs.Fields.{bodyAt}
+use Rattle.decode.specs.Body.{bodyAt}
 use borrow.Author.Needs.{needs}
 use Rattle.decode.proofs.read_event.Statement.{statement}
 use Rattle.decode.proofs.read_event.Tie as tie

@@ -1,7 +1,8 @@
 -- `decode::read_receive` meets its contract: its fields in order.
 use mathlib.Core.Path.{refl, sym, _∙_, ap}
-use Rattle.decode.specs.Fields.{said8}
-use Rattle.decode.proofs.InOrder.{body-cut, body-read, got, missed}
+use Rattle.fields.specs.Fields.{said8}
+use Rattle.fields.proofs.InOrder.{got, missed}
+use Rattle.decode.proofs.Bodies.{body-cut, body-read}
 use borrow.Author.Needs.{needs}
 use Rattle.decode.proofs.read_receive.Statement.{statement}
 use Rattle.decode.proofs.read_receive.Tie as tie

@@ -1,11 +1,11 @@
--- `decode::read_block` meets its contract: two fields in order.
+-- `fields::read_block` meets its contract: two fields in order.
 use mathlib.Core.Path.{sym, _∙_, ap}
 use mathlib.Core.List.{[], _∷_}
-use Rattle.decode.specs.Fields.{said16}
-use Rattle.decode.proofs.InOrder.{and-then, cut-first, cut-later, cut-said, got, got-said, missed}
+use Rattle.fields.specs.Fields.{said16}
+use Rattle.fields.proofs.InOrder.{and-then, cut-first, cut-later, cut-said, got, got-said, missed}
 use borrow.Author.Needs.{needs}
-use Rattle.decode.proofs.read_block.Statement.{statement}
-use Rattle.decode.proofs.read_block.Tie as tie
+use Rattle.fields.proofs.read_block.Statement.{statement}
+use Rattle.fields.proofs.read_block.Tie as tie
 
 read-u16-requires : tie.Need-read-u16-requires
 read-u16-requires c κs = search needs

@@ -1,10 +1,10 @@
--- `decode::signed_of` meets its contract.
+-- `fields::signed_of` meets its contract.
 use mathlib.Core.Path.{_∙_}
 use mir.Facts.{toZ-ofZ}
-use Rattle.decode.proofs.Signed.{high-half, low-half, signed-fits}
+use Rattle.fields.proofs.Signed.{high-half, low-half, signed-fits}
 use borrow.Author.Needs.{needs}
-use Rattle.decode.proofs.signed_of.Statement.{statement}
-use Rattle.decode.proofs.signed_of.Tie as tie
+use Rattle.fields.proofs.signed_of.Statement.{statement}
+use Rattle.fields.proofs.signed_of.Tie as tie
 
 cast-result : tie.Need-cast-result
 cast-result c = search needs

@@ -1,10 +1,10 @@
--- `decode::number64` meets its contract: two numbers of four bytes.
+-- `fields::number64` meets its contract: two numbers of four bytes.
 use Prim.Native.Nat.{_+_, _<_}
 use native.Mathlib.Omega.{arith}
-use Rattle.decode.proofs.Numbers.{number-split}
+use Rattle.fields.proofs.Numbers.{number-split}
 use borrow.Author.Needs.{needs}
-use Rattle.decode.proofs.number64.Statement.{statement}
-use Rattle.decode.proofs.number64.Tie as tie
+use Rattle.fields.proofs.number64.Statement.{statement}
+use Rattle.fields.proofs.number64.Tie as tie
 
 number32-requires : tie.Need-number32-requires
 number32-requires c κs = search needs

@@ -1,4 +1,4 @@
--- `decode::read_u8` meets its contract.
+-- `fields::read_u8` meets its contract.
 use Prim.Native.Nat.{_+_, _≤_}
 use mathlib.Core.Path.{_≡_, sym, _∙_}
 use mathlib.Core.Bool.{true}
@@ -6,11 +6,11 @@ use native.Mathlib.Omega.{arith}
 use lib.Dec.{leb}
 use lib.ListN.{length}
 use borrow.Author.Tests.{leb-true, not-false, not-true}
-use Rattle.decode.proofs.InOrder.{one-cut, one-got}
-use Rattle.decode.proofs.Numbers.{number-of-one}
+use Rattle.fields.proofs.InOrder.{one-cut, one-got}
+use Rattle.fields.proofs.Numbers.{number-of-one}
 use borrow.Author.Needs.{needs}
-use Rattle.decode.proofs.read_u8.Statement.{statement}
-use Rattle.decode.proofs.read_u8.Tie as tie
+use Rattle.fields.proofs.read_u8.Statement.{statement}
+use Rattle.fields.proofs.read_u8.Tie as tie
 
 reaches : (c : tie.Else1) → leb (c .before .before .before .args .at + 1) (length (c .before .before .before .args .sheet .now)) ≡ true
 reaches c = sym (c .before .has .ensures) ∙ not-false _ (c .if1 .left)

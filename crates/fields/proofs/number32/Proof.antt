@@ -1,10 +1,10 @@
--- `decode::number32` meets its contract: two numbers of two bytes.
+-- `fields::number32` meets its contract: two numbers of two bytes.
 use Prim.Native.Nat.{_+_, _<_}
 use native.Mathlib.Omega.{arith}
-use Rattle.decode.proofs.Numbers.{number-split}
+use Rattle.fields.proofs.Numbers.{number-split}
 use borrow.Author.Needs.{needs}
-use Rattle.decode.proofs.number32.Statement.{statement}
-use Rattle.decode.proofs.number32.Tie as tie
+use Rattle.fields.proofs.number32.Statement.{statement}
+use Rattle.fields.proofs.number32.Tie as tie
 
 number16-requires : tie.Need-number16-requires
 number16-requires c κs = search needs

@@ -1,11 +1,11 @@
--- `decode::has` meets its contract.
+-- `fields::has` meets its contract.
 use Prim.Native.Nat.{_+_, _<_, _≤_}
 use native.Mathlib.Omega.{arith}
 use lib.ListN.{length}
 use borrow.Author.Tests.{le-leb, lt-leb}
 use borrow.Author.Needs.{needs}
-use Rattle.decode.proofs.has.Statement.{statement}
-use Rattle.decode.proofs.has.Tie as tie
+use Rattle.fields.proofs.has.Statement.{statement}
+use Rattle.fields.proofs.has.Tie as tie
 
 returns : tie.Need-returns
 returns c = let h : length (c .before .args .sheet .now) < c .before .args .at + c .before .args .n = omega arith in rw (lt-leb _ _ h)

@@ -1,10 +1,10 @@
--- `decode::number16` meets its contract: two bytes, the first times 256.
+-- `fields::number16` meets its contract: two bytes, the first times 256.
 use Prim.Native.Nat.{_+_, _<_}
 use native.Mathlib.Omega.{arith}
-use Rattle.decode.proofs.Numbers.{number-of-one, number-split}
+use Rattle.fields.proofs.Numbers.{number-of-one, number-split}
 use borrow.Author.Needs.{needs}
-use Rattle.decode.proofs.number16.Statement.{statement}
-use Rattle.decode.proofs.number16.Tie as tie
+use Rattle.fields.proofs.number16.Statement.{statement}
+use Rattle.fields.proofs.number16.Tie as tie
 
 shared-slice-read-wide : tie.Need-shared-slice-read-wide
 shared-slice-read-wide c = search needs

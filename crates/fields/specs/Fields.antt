@@ -1,19 +1,17 @@
--- Fields of given lengths at an index of a sheet, and the body of a kind there.
+-- Fields of given lengths at an index of a sheet, and what the readers' answers say.
 use Prim.Native.Nat.{ℕ, _+_}
 use mathlib.Core.Bool.{cond}
 use mathlib.Core.List.{List, [], _∷_}
 use lib.Dec.{leb}
 use lib.ListN.{drop, length}
 use Rattle.lists.specs.Lists.{sumOf}
-use Rattle.event.specs.Event.{blockList, blockNumbers, bodyLength, callOf, fieldsIn}
-use Rattle.event.specs.ReadWrite.{readingOf}
-use Rattle.event.specs.declared.Reading.{Reading}
-use Rattle.decode.specs.declared.Field8.{Field8}
-use Rattle.decode.specs.declared.Field16.{Field16}
-use Rattle.decode.specs.declared.Field32.{Field32}
-use Rattle.decode.specs.declared.Field64.{Field64}
-use Rattle.decode.specs.declared.BlockField.{BlockField}
-use Rattle.decode.specs.declared.BlocksField.{BlocksField}
+use Rattle.event.specs.Event.{blockList, blockNumbers, fieldsIn}
+use Rattle.fields.specs.declared.Field8.{Field8}
+use Rattle.fields.specs.declared.Field16.{Field16}
+use Rattle.fields.specs.declared.Field32.{Field32}
+use Rattle.fields.specs.declared.Field64.{Field64}
+use Rattle.fields.specs.declared.BlockField.{BlockField}
+use Rattle.fields.specs.declared.BlocksField.{BlocksField}
 
 abbrev pub total : List ℕ → ℕ
 total lengths = sumOf (λ (n : ℕ). n) lengths
@@ -51,7 +49,3 @@ saidBlock BlockField.Short = short
 abbrev pub saidBlocks : BlocksField → Fields
 saidBlocks (BlocksField.Value b next) = values (blockNumbers (blockList b)) next
 saidBlocks BlocksField.Short = short
-
--- ---- the body of a kind, from an index on
-unfoldable pub bodyAt : ℕ → List ℕ → ℕ → Reading
-bodyAt kind sheet at = readingOf (at + bodyLength kind) (callOf kind (drop at sheet))

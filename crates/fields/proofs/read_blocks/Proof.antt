@@ -1,11 +1,11 @@
--- `decode::read_blocks` meets its contract: eight blocks in order.
+-- `fields::read_blocks` meets its contract: eight blocks in order.
 use mathlib.Core.Path.{sym, _∙_, ap}
 use mathlib.Core.List.{[], _∷_}
-use Rattle.decode.specs.Fields.{saidBlock}
-use Rattle.decode.proofs.InOrder.{and-then, cut-first, cut-later, cut-said, got, got-said, missed}
+use Rattle.fields.specs.Fields.{saidBlock}
+use Rattle.fields.proofs.InOrder.{and-then, cut-first, cut-later, cut-said, got, got-said, missed}
 use borrow.Author.Needs.{needs}
-use Rattle.decode.proofs.read_blocks.Statement.{statement}
-use Rattle.decode.proofs.read_blocks.Tie as tie
+use Rattle.fields.proofs.read_blocks.Statement.{statement}
+use Rattle.fields.proofs.read_blocks.Tie as tie
 
 read-block-requires : tie.Need-read-block-requires
 read-block-requires c κs = search needs
