@@ -11,6 +11,7 @@ use Rattle.fields.specs.declared.Field16.{Field16}
 use Rattle.fields.specs.declared.Field32.{Field32}
 use Rattle.fields.specs.declared.Field64.{Field64}
 use Rattle.fields.specs.declared.BlockField.{BlockField}
+use Rattle.fields.specs.declared.FourField.{FourField}
 use Rattle.fields.specs.declared.BlocksField.{BlocksField}
 
 abbrev pub total : List ℕ → ℕ
@@ -45,6 +46,10 @@ said64 Field64.Short = short
 abbrev pub saidBlock : BlockField → Fields
 saidBlock (BlockField.Value b next) = values (blockNumbers (b ∷ [])) next
 saidBlock BlockField.Short = short
+
+abbrev pub saidFour : FourField → Fields
+saidFour (FourField.Value a b c d next) = values (blockNumbers (a ∷ b ∷ c ∷ d ∷ [])) next
+saidFour FourField.Short = short
 
 abbrev pub saidBlocks : BlocksField → Fields
 saidBlocks (BlocksField.Value b next) = values (blockNumbers (blockList b)) next

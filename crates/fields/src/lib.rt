@@ -7,7 +7,7 @@ ghost use Prim.Native.Nat.{ℕ, _+_, _≤_, _<_};
 ghost use lib.Dec.{leb};
 ghost use lib.ListN.{drop, length, replicate, take};
 ghost use Rattle.event.specs.BigEndian.{numberOf, signed};
-ghost use Rattle.fields.specs.Fields.{fieldsAt, said8, said16, said32, said64, saidBlock, saidBlocks};
+ghost use Rattle.fields.specs.Fields.{fieldsAt, said8, said16, said32, said64, saidBlock, saidBlocks, saidFour};
 
 // A field of one, two, four or eight bytes and the index past it, or the sheet ends before.
 pub enum Field8 {
@@ -30,9 +30,14 @@ pub enum Field64 {
     Short,
 }
 
-// A block of a view event, and all eight, likewise.
+// A block of a view event, four of them, and all eight, likewise.
 pub enum BlockField {
     Value(Block, usize),
+    Short,
+}
+
+pub enum FourField {
+    Value(Block, Block, Block, Block, usize),
     Short,
 }
 
@@ -124,7 +129,7 @@ pub fn read_u64(sheet: &[u8], at: usize) -> Field64
     Field64::Value(number64(sheet, at), at + 8)
 }
 
-// A block, and all eight of a view event, one after the other.
+// A block: its start and its length.
 pub fn read_block(sheet: &[u8], at: usize) -> BlockField
     ensures { λ r. ⌜ saidBlock r ≡ fieldsAt (2 ∷ 2 ∷ []) (now (sheet .entry)) at ⌝ }
 {
@@ -137,31 +142,33 @@ pub fn read_block(sheet: &[u8], at: usize) -> BlockField
     BlockField::Value(Block { start, length }, end)
 }
 
+// Four blocks, one half of a view event's.
+fn read_four(sheet: &[u8], at: usize) -> FourField
+    ensures { λ r. ⌜ saidFour r ≡ fieldsAt (replicate 8 2) (now (sheet .entry)) at ⌝ }
+{
+    let BlockField::Value(b0, at1) = read_block(sheet, at) else {
+        return FourField::Short;
+    };
+    let BlockField::Value(b1, at2) = read_block(sheet, at1) else {
+        return FourField::Short;
+    };
+    let BlockField::Value(b2, at3) = read_block(sheet, at2) else {
+        return FourField::Short;
+    };
+    let BlockField::Value(b3, end) = read_block(sheet, at3) else {
+        return FourField::Short;
+    };
+    FourField::Value(b0, b1, b2, b3, end)
+}
+
+// The eight blocks of a view event, one after the other.
 pub fn read_blocks(sheet: &[u8], at: usize) -> BlocksField
     ensures { λ r. ⌜ saidBlocks r ≡ fieldsAt (replicate 16 2) (now (sheet .entry)) at ⌝ }
 {
-    let BlockField::Value(b0, at1) = read_block(sheet, at) else {
+    let FourField::Value(b0, b1, b2, b3, middle) = read_four(sheet, at) else {
         return BlocksField::Short;
     };
-    let BlockField::Value(b1, at2) = read_block(sheet, at1) else {
-        return BlocksField::Short;
-    };
-    let BlockField::Value(b2, at3) = read_block(sheet, at2) else {
-        return BlocksField::Short;
-    };
-    let BlockField::Value(b3, at4) = read_block(sheet, at3) else {
-        return BlocksField::Short;
-    };
-    let BlockField::Value(b4, at5) = read_block(sheet, at4) else {
-        return BlocksField::Short;
-    };
-    let BlockField::Value(b5, at6) = read_block(sheet, at5) else {
-        return BlocksField::Short;
-    };
-    let BlockField::Value(b6, at7) = read_block(sheet, at6) else {
-        return BlocksField::Short;
-    };
-    let BlockField::Value(b7, end) = read_block(sheet, at7) else {
+    let FourField::Value(b4, b5, b6, b7, end) = read_four(sheet, middle) else {
         return BlocksField::Short;
     };
     let blocks = Blocks {
