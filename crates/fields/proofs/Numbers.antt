@@ -2,21 +2,11 @@
 use Prim.Native.Nat.{ℕ, zero, suc, _+_, _-_, _*_, _^_, _≤_, _<_}
 use mathlib.Core.Path.{_≡_, refl, sym, _∙_, ap}
 use mathlib.Core.List.{List, [], _∷_, _++_}
-use native.Mathlib.Nat.{add-mul, mul-assoc}
 use native.Mathlib.Omega.{arith}
-use lib.ListN.{drop, getD, length, take, length-append, length-drop}
-use lib.Pow.{pow-add}
+use lib.ListN.{drop, getD, length, take, length-drop}
 use lib.Seq.{drop-cons, drop-drop, length-take-le, take-add}
 use Rattle.event.specs.BigEndian.{numberOf}
-
-pub number-append : (xs ys : List ℕ) → numberOf (xs ++ ys) ≡ numberOf xs * 256 ^ length ys + numberOf ys
-unfolding numberOf
-number-append [] ys = omega arith
-number-append (x ∷ xs) ys =
-    let a = 256 ^ length xs in
-    let b = 256 ^ length ys in
-    rw (length-append xs ys, pow-add 256 (length xs) (length ys), number-append xs ys)
-    (omega (arith, add-mul (x * a) (numberOf xs) b, mul-assoc x a b))
+use Rattle.event.proofs.Numbers.{number-append}
 
 -- the number in m + n bytes: the first m, then n
 pub number-split : (m n : ℕ) (sheet : List ℕ) (at : ℕ) → at + (m + n) ≤ length sheet
