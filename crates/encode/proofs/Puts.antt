@@ -1,4 +1,4 @@
--- Fields stored one after the other are the fields stored together, and a whole event is what writing leaves.
+-- Fields stored one after the other are the fields stored together, and a whole event is what writing leaves and answers.
 use Prim.Native.Nat.{ℕ, zero, suc, _+_, _-_, _*_, _/_, _%_, _^_, _≤_, _<_}
 use mathlib.Core.Path.{_≡_, refl, sym, _∙_, ap}
 use mathlib.Core.Bool.{Bool, true, false, cond}
@@ -8,14 +8,16 @@ use native.Mathlib.Numerals.{add-one}
 use native.Mathlib.Omega.{arith}
 use lib.ListN.{drop, length, set, take}
 use lib.Seq.{sets, sets-eq}
-use borrow.Author.Tests.{le-leb}
+use borrow.Author.Tests.{le-leb, lt-leb}
 use Rattle.event.specs.BigEndian.{bigEndian}
 use Rattle.event.specs.Event.{bytesOf, eventBytes, fieldLengths, fieldsOf, isListed, kindOf}
-use Rattle.event.specs.ReadWrite.{writtenTo}
+use Rattle.event.specs.ReadWrite.{writingOf, writtenTo}
 use Rattle.event.specs.declared.Event.{Event}
+use Rattle.event.specs.declared.Writing.{Writing}
 use Rattle.event.proofs.Fields.{bytes-length, total}
 use Rattle.event.proofs.Numbers.{big-endian-split}
-use Rattle.encode.specs.Put.{putAt, withEvent}
+use Rattle.event.proofs.RoundTrip.{body-length}
+use Rattle.encode.specs.Put.{lengthOf, putAt, withEvent}
 
 sets-append : (xs ys l : List ℕ) (i : ℕ) → sets (sets l i xs) (i + length xs) ys ≡ sets l i (xs ++ ys)
 sets-append [] ys l i = rw (add-zero i)
@@ -89,3 +91,44 @@ unfolding withEvent writtenTo putAt
 event-left buffer e k room =
     rw (k, le-leb (length (eventBytes e)) (length buffer) room, kind-first (kindOf e) (fieldLengths (kindOf e)) (fieldsOf e))
     (from-start (eventBytes e) buffer room)
+
+-- ---- the answers
+listed : (e : Event) → (lengthOf e ≡ 0 → ⊥) → isListed (kindOf e) ≡ true
+listed e h = by-test (isListed (kindOf e)) refl
+  where
+    by-test : (b : Bool) → isListed (kindOf e) ≡ b → b ≡ true
+    by-test true q = refl
+    by-test false q = absurd (h (rw q))
+
+unlisted : (e : Event) → lengthOf e ≡ 0 → isListed (kindOf e) ≡ false
+unlisted e h = by-test (isListed (kindOf e)) refl
+  where
+    by-test : (b : Bool) → isListed (kindOf e) ≡ b → b ≡ false
+    by-test true q = absurd (omega (arith, rw q at h))
+    by-test false q = refl
+
+length-is : (e : Event) → isListed (kindOf e) ≡ true → lengthOf e ≡ length (eventBytes e)
+length-is e k = rw k (omega (arith, body-length e k))
+
+pub refused-2 : (buffer : List ℕ) (e : Event) → lengthOf e ≡ 0 → (Writing.Refused 2 ≡ writingOf buffer e) × (buffer ≡ writtenTo buffer e)
+unfolding writingOf writtenTo
+refused-2 buffer e h = (rw (unlisted e h), rw (unlisted e h))
+
+pub refused-3 : (buffer : List ℕ) (e : Event) → (lengthOf e ≡ 0 → ⊥) → length buffer < lengthOf e
+    → (Writing.Refused 3 ≡ writingOf buffer e) × (buffer ≡ writtenTo buffer e)
+unfolding writingOf writtenTo
+refused-3 buffer e h less =
+    let k = listed e h in
+    let short : length buffer < length (eventBytes e) = omega (arith, length-is e k) in
+    let q = lt-leb (length (eventBytes e)) (length buffer) short in
+    (rw (k, q), rw (k, q))
+
+pub written : (buffer : List ℕ) (e : Event) → (lengthOf e ≡ 0 → ⊥) → lengthOf e ≤ length buffer
+    → (Writing.Length (lengthOf e) ≡ writingOf buffer e) × (withEvent buffer e ≡ writtenTo buffer e)
+unfolding writingOf
+written buffer e h room =
+    let k = listed e h in
+    let enough : length (eventBytes e) ≤ length buffer = omega (arith, length-is e k) in (
+      ap Writing.Length (length-is e k) ∙ sym (rw (k, le-leb (length (eventBytes e)) (length buffer) enough)),
+      event-left buffer e k enough,
+    )

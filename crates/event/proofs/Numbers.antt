@@ -79,11 +79,11 @@ big-endian-split m n v h =
     let high : v / 256 ^ n < 256 ^ m = div-lt-iff-lt-mul (power-positive n) .1 (rw pow-add at h) in
     let low : v % 256 ^ n < 256 ^ n = mod-lt v (power-positive n) in
     let long : length (xs ++ ys) ≡ m + n =
-        length-append xs ys ∙ rw (big-endian-length m (v / 256 ^ n), big-endian-length n (v % 256 ^ n)) in
+    length-append xs ys ∙ rw (big-endian-length m (v / 256 ^ n), big-endian-length n (v % 256 ^ n)) in
     let same : numberOf (xs ++ ys) ≡ v =
-        number-append xs ys
-        ∙ rw (number-of-big-endian m (v / 256 ^ n) high, number-of-big-endian n (v % 256 ^ n) low, big-endian-length n (v % 256 ^ n))
-        (div-add-mod' v (256 ^ n)) in
+    number-append xs ys
+    ∙ rw (number-of-big-endian m (v / 256 ^ n) high, number-of-big-endian n (v % 256 ^ n) low, big-endian-length n (v % 256 ^ n))
+    (div-add-mod' v (256 ^ n)) in
     rw (long, same) at
     (big-endian-of-number (xs ++ ys) (bytes-append xs ys (big-endian-bytes m (v / 256 ^ n) high) (big-endian-bytes n (v % 256 ^ n) low)))
 
