@@ -2,3 +2,4 @@
 pub mod BigEndian
 pub mod Event
 pub mod ReadWrite
+pub mod Typed

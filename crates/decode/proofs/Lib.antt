@@ -1,0 +1,2 @@
+-- The laws by which bodies are read.
+pub mod Bodies

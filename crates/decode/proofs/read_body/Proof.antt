@@ -1,0 +1,111 @@
+-- `decode::read_body` meets its contract: an arm for each kind, and one for all others.
+use Rattle.decode.proofs.Bodies.{body-unlisted, none-listed}
+use borrow.Author.Needs.{needs}
+use Rattle.decode.proofs.read_body.Statement.{statement}
+use Rattle.decode.proofs.read_body.Tie as tie
+
+read-open-requires : tie.Need-read-open-requires
+read-open-requires c κs = search needs
+
+read-want-requires : tie.Need-read-want-requires
+read-want-requires c κs = search needs
+
+read-receive-requires : tie.Need-read-receive-requires
+read-receive-requires c κs = search needs
+
+read-take-requires : tie.Need-read-take-requires
+read-take-requires c κs = search needs
+
+read-write-requires : tie.Need-read-write-requires
+read-write-requires c κs = search needs
+
+read-read-requires : tie.Need-read-read-requires
+read-read-requires c κs = search needs
+
+read-put-requires : tie.Need-read-put-requires
+read-put-requires c κs = search needs
+
+read-look-requires : tie.Need-read-look-requires
+read-look-requires c κs = search needs
+
+read-free-requires : tie.Need-read-free-requires
+read-free-requires c κs = search needs
+
+read-enter-requires : tie.Need-read-enter-requires
+read-enter-requires c κs = search needs
+
+read-view-requires : tie.Need-read-view-requires
+read-view-requires c κs = search needs
+
+read-seek-requires : tie.Need-read-seek-requires
+read-seek-requires c κs = search needs
+
+returns : tie.Need-returns
+returns c = rw (c .before .match .keys1) (c .read-open .ensures)
+
+returns-2 : tie.Need-returns-2
+returns-2 c = rw (c .before .match .keys2) (c .read-want .ensures)
+
+returns-3 : tie.Need-returns-3
+returns-3 c = rw (c .before .match .keys3) (c .read-receive .ensures)
+
+returns-4 : tie.Need-returns-4
+returns-4 c = rw (c .before .match .keys4) (c .read-take .ensures)
+
+returns-5 : tie.Need-returns-5
+returns-5 c = rw (c .before .match .keys5) (c .read-write .ensures)
+
+returns-6 : tie.Need-returns-6
+returns-6 c = rw (c .before .match .keys6) (c .read-read .ensures)
+
+returns-7 : tie.Need-returns-7
+returns-7 c = rw (c .before .match .keys7) (c .read-put .ensures)
+
+returns-8 : tie.Need-returns-8
+returns-8 c = rw (c .before .match .keys8) (c .read-look .ensures)
+
+returns-9 : tie.Need-returns-9
+returns-9 c = rw (c .before .match .keys9) (c .read-free .ensures)
+
+returns-10 : tie.Need-returns-10
+returns-10 c = rw (c .before .match .keys10) (c .read-enter .ensures)
+
+returns-11 : tie.Need-returns-11
+returns-11 c = rw (c .before .match .keys11) (c .read-view .ensures)
+
+returns-12 : tie.Need-returns-12
+returns-12 c = rw (c .before .match .keys12) (c .read-seek .ensures)
+
+returns-13 : tie.Need-returns-13
+returns-13 c = let others = c .match .rest in
+    body-unlisted _ _ _ (none-listed _ (others .0 .0 .0 .0 .0 .0 .0 .0 .0 .0 .0 .1) (others .0 .0 .0 .0 .0 .0 .0 .0 .0 .0 .1) (others .0 .0 .0 .0 .0 .0 .0 .0 .0 .1) (others .0 .0 .0 .0 .0 .0 .0 .0 .1) (others .0 .0 .0 .0 .0 .0 .0 .1) (others .0 .0 .0 .0 .0 .0 .1) (others .0 .0 .0 .0 .0 .1) (others .0 .0 .0 .0 .1) (others .0 .0 .0 .1) (others .0 .0 .1) (others .0 .1) (others .1))
+
+pub read-body-spec : {M : Type 1} → statement M
+read-body-spec =
+    tie.close
+    (tie.spec
+    read-open-requires
+    read-want-requires
+    read-receive-requires
+    read-take-requires
+    read-write-requires
+    read-read-requires
+    read-put-requires
+    read-look-requires
+    read-free-requires
+    read-enter-requires
+    read-view-requires
+    read-seek-requires
+    returns
+    returns-2
+    returns-3
+    returns-4
+    returns-5
+    returns-6
+    returns-7
+    returns-8
+    returns-9
+    returns-10
+    returns-11
+    returns-12
+    returns-13)

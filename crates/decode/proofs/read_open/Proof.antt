@@ -1,0 +1,55 @@
+-- `decode::read_open` meets its contract: its fields in order.
+use mathlib.Core.Path.{refl, sym, _∙_, ap}
+use mathlib.Core.List.{[], _∷_}
+use Rattle.fields.specs.Fields.{said32, said8}
+use Rattle.fields.proofs.InOrder.{and-then, cut-first, cut-later, got, missed}
+use Rattle.decode.proofs.Bodies.{body-cut, body-read}
+use borrow.Author.Needs.{needs}
+use Rattle.decode.proofs.read_open.Statement.{statement}
+use Rattle.decode.proofs.read_open.Tie as tie
+
+read-u8-requires : tie.Need-read-u8-requires
+read-u8-requires c κs = search needs
+
+enum-known-lanes : tie.Need-enum-known-lanes
+enum-known-lanes c = search needs
+
+enum-told : tie.Need-enum-told
+enum-told c = search needs
+
+returns : tie.Need-returns
+returns c = body-cut 1 refl (cut-first (4 ∷ []) (missed (sym (c .before .before .read-u8 .ensures) ∙ ap said8 (c .enum-told .given .1))))
+
+read-u32-requires : tie.Need-read-u32-requires
+read-u32-requires c κs = search needs
+
+enum-known-capacity : tie.Need-enum-known-capacity
+enum-known-capacity c = search needs
+
+enum-told-2 : tie.Need-enum-told-2
+enum-told-2 c = search needs
+
+returns-2 : tie.Need-returns-2
+returns-2 c =
+    let lanes = c .before .before .before .before in
+    body-cut 1 refl (cut-later (got (sym (lanes .before .before .read-u8 .ensures) ∙ ap said8 (lanes .lanes .given .1))) (missed (sym (c .before .before .read-u32 .ensures) ∙ ap said32 (c .enum-told2 .given .1))))
+
+returns-3 : tie.Need-returns-3
+returns-3 c =
+    let capacity = c .before in
+    let lanes = capacity .before .before .before .before in
+    body-read 1 refl (and-then (got (sym (lanes .before .before .read-u8 .ensures) ∙ ap said8 (lanes .lanes .given .1))) (got (sym (capacity .before .before .read-u32 .ensures) ∙ ap said32 (capacity .capacity .given .1))))
+
+pub read-open-spec : {M : Type 1} → statement M
+read-open-spec =
+    tie.close
+    (tie.spec
+    read-u8-requires
+    enum-known-lanes
+    enum-told
+    returns
+    read-u32-requires
+    enum-known-capacity
+    enum-told-2
+    returns-2
+    returns-3)

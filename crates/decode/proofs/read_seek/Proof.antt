@@ -1,0 +1,61 @@
+-- `decode::read_seek` meets its contract: its fields in order.
+use mathlib.Core.Path.{refl, sym, _∙_, ap}
+use mir.Facts.{toZ-ofZ}
+use Rattle.fields.proofs.Signed.{signed-fits}
+use mathlib.Core.List.{[], _∷_}
+use Rattle.fields.specs.Fields.{said32, said8}
+use Rattle.fields.proofs.InOrder.{and-then, cut-first, cut-later, got, missed}
+use Rattle.decode.proofs.Bodies.{body-cut, body-read}
+use borrow.Author.Needs.{needs}
+use Rattle.decode.proofs.read_seek.Statement.{statement}
+use Rattle.decode.proofs.read_seek.Tie as tie
+
+read-u8-requires : tie.Need-read-u8-requires
+read-u8-requires c κs = search needs
+
+enum-known-whence : tie.Need-enum-known-whence
+enum-known-whence c = search needs
+
+enum-told : tie.Need-enum-told
+enum-told c = search needs
+
+returns : tie.Need-returns
+returns c = body-cut 12 refl (cut-first (4 ∷ []) (missed (sym (c .before .before .read-u8 .ensures) ∙ ap said8 (c .enum-told .given .1))))
+
+read-u32-requires : tie.Need-read-u32-requires
+read-u32-requires c κs = search needs
+
+enum-known-offset : tie.Need-enum-known-offset
+enum-known-offset c = search needs
+
+enum-told-2 : tie.Need-enum-told-2
+enum-told-2 c = search needs
+
+returns-2 : tie.Need-returns-2
+returns-2 c =
+    let whence = c .before .before .before .before in
+    body-cut 12 refl (cut-later (got (sym (whence .before .before .read-u8 .ensures) ∙ ap said8 (whence .whence .given .1))) (missed (sym (c .before .before .read-u32 .ensures) ∙ ap said32 (c .enum-told2 .given .1))))
+
+signed-of-requires : tie.Need-signed-of-requires
+signed-of-requires c κs = search needs
+
+returns-3 : tie.Need-returns-3
+returns-3 c =
+    let offset = c .before .before in
+    let whence = offset .before .before .before .before in
+    rw (c .signed-of .ensures, toZ-ofZ (signed-fits (offset .offset .given .0 .0))) (body-read 12 refl (and-then (got (sym (whence .before .before .read-u8 .ensures) ∙ ap said8 (whence .whence .given .1))) (got (sym (offset .before .before .read-u32 .ensures) ∙ ap said32 (offset .offset .given .1)))))
+
+pub read-seek-spec : {M : Type 1} → statement M
+read-seek-spec =
+    tie.close
+    (tie.spec
+    read-u8-requires
+    enum-known-whence
+    enum-told
+    returns
+    read-u32-requires
+    enum-known-offset
+    enum-told-2
+    returns-2
+    signed-of-requires
+    returns-3)

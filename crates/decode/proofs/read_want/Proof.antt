@@ -1,0 +1,55 @@
+-- `decode::read_want` meets its contract: its fields in order.
+use mathlib.Core.Path.{refl, sym, _∙_, ap}
+use mathlib.Core.List.{[], _∷_}
+use Rattle.fields.specs.Fields.{said8}
+use Rattle.fields.proofs.InOrder.{and-then, cut-first, cut-later, got, missed}
+use Rattle.decode.proofs.Bodies.{body-cut, body-read}
+use borrow.Author.Needs.{needs}
+use Rattle.decode.proofs.read_want.Statement.{statement}
+use Rattle.decode.proofs.read_want.Tie as tie
+
+read-u8-requires : tie.Need-read-u8-requires
+read-u8-requires c κs = search needs
+
+enum-known-lane : tie.Need-enum-known-lane
+enum-known-lane c = search needs
+
+enum-told : tie.Need-enum-told
+enum-told c = search needs
+
+returns : tie.Need-returns
+returns c = body-cut 2 refl (cut-first (1 ∷ []) (missed (sym (c .before .before .read-u8 .ensures) ∙ ap said8 (c .enum-told .given .1))))
+
+read-u8-requires-2 : tie.Need-read-u8-requires-2
+read-u8-requires-2 c κs = search needs
+
+enum-known-purpose : tie.Need-enum-known-purpose
+enum-known-purpose c = search needs
+
+enum-told-2 : tie.Need-enum-told-2
+enum-told-2 c = search needs
+
+returns-2 : tie.Need-returns-2
+returns-2 c =
+    let lane = c .before .before .before .before in
+    body-cut 2 refl (cut-later (got (sym (lane .before .before .read-u8 .ensures) ∙ ap said8 (lane .lane .given .1))) (missed (sym (c .before .before .read-u82 .ensures) ∙ ap said8 (c .enum-told2 .given .1))))
+
+returns-3 : tie.Need-returns-3
+returns-3 c =
+    let purpose = c .before in
+    let lane = purpose .before .before .before .before in
+    body-read 2 refl (and-then (got (sym (lane .before .before .read-u8 .ensures) ∙ ap said8 (lane .lane .given .1))) (got (sym (purpose .before .before .read-u82 .ensures) ∙ ap said8 (purpose .purpose .given .1))))
+
+pub read-want-spec : {M : Type 1} → statement M
+read-want-spec =
+    tie.close
+    (tie.spec
+    read-u8-requires
+    enum-known-lane
+    enum-told
+    returns
+    read-u8-requires-2
+    enum-known-purpose
+    enum-told-2
+    returns-2
+    returns-3)

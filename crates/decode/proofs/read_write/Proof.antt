@@ -1,0 +1,55 @@
+-- `decode::read_write` meets its contract: its fields in order.
+use mathlib.Core.Path.{refl, sym, _∙_, ap}
+use mathlib.Core.List.{[], _∷_}
+use Rattle.fields.specs.Fields.{said64, said8}
+use Rattle.fields.proofs.InOrder.{and-then, cut-first, cut-later, got, missed}
+use Rattle.decode.proofs.Bodies.{body-cut, body-read}
+use borrow.Author.Needs.{needs}
+use Rattle.decode.proofs.read_write.Statement.{statement}
+use Rattle.decode.proofs.read_write.Tie as tie
+
+read-u8-requires : tie.Need-read-u8-requires
+read-u8-requires c κs = search needs
+
+enum-known-lane : tie.Need-enum-known-lane
+enum-known-lane c = search needs
+
+enum-told : tie.Need-enum-told
+enum-told c = search needs
+
+returns : tie.Need-returns
+returns c = body-cut 5 refl (cut-first (8 ∷ []) (missed (sym (c .before .before .read-u8 .ensures) ∙ ap said8 (c .enum-told .given .1))))
+
+read-u64-requires : tie.Need-read-u64-requires
+read-u64-requires c κs = search needs
+
+enum-known-content : tie.Need-enum-known-content
+enum-known-content c = search needs
+
+enum-told-2 : tie.Need-enum-told-2
+enum-told-2 c = search needs
+
+returns-2 : tie.Need-returns-2
+returns-2 c =
+    let lane = c .before .before .before .before in
+    body-cut 5 refl (cut-later (got (sym (lane .before .before .read-u8 .ensures) ∙ ap said8 (lane .lane .given .1))) (missed (sym (c .before .before .read-u64 .ensures) ∙ ap said64 (c .enum-told2 .given .1))))
+
+returns-3 : tie.Need-returns-3
+returns-3 c =
+    let content = c .before in
+    let lane = content .before .before .before .before in
+    body-read 5 refl (and-then (got (sym (lane .before .before .read-u8 .ensures) ∙ ap said8 (lane .lane .given .1))) (got (sym (content .before .before .read-u64 .ensures) ∙ ap said64 (content .content .given .1))))
+
+pub read-write-spec : {M : Type 1} → statement M
+read-write-spec =
+    tie.close
+    (tie.spec
+    read-u8-requires
+    enum-known-lane
+    enum-told
+    returns
+    read-u64-requires
+    enum-known-content
+    enum-told-2
+    returns-2
+    returns-3)

@@ -1,0 +1,2 @@
+-- The definitions that the readers of bodies are held to.
+pub mod Body

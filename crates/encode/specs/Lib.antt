@@ -1,0 +1,2 @@
+-- The definitions that the writers of fields are held to.
+pub mod Put

@@ -1,0 +1,2 @@
+-- The definitions that the readers of fields are held to.
+pub mod Fields
