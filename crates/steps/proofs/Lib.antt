@@ -5,3 +5,5 @@ pub mod Stored
 pub mod Release
 pub mod Ordered
 pub mod Keeps
+pub mod Chains
+pub mod Edges
