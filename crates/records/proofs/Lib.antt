@@ -1,0 +1,2 @@
+-- The laws behind the calls on records.
+pub mod Digits
