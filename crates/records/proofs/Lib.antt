@@ -1,0 +1,3 @@
+-- The laws behind the calls on records.
+pub mod Digits
+pub mod Other

@@ -1,0 +1,2 @@
+-- The decisions of the calls on records.
+pub mod Records

@@ -1,0 +1,2 @@
+-- The outcome of a refused call.
+pub mod Refused

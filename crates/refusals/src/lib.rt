@@ -1,0 +1,15 @@
+// A refused call: the line as it was handed in, and the number of the reason.
+ghost use mathlib.Core.Path.{_≡_};
+ghost use Rattle.refusals.specs.Refused.{refused};
+use line::Line;
+use steps::Answer;
+use steps::Outcome;
+
+pub fn refuse(line: Line, number: u8) -> Outcome
+    ensures { λ r. ⌜ r ≡ refused line number ⌝ }
+{
+    Outcome {
+        line,
+        answer: Answer::Refused { number },
+    }
+}
