@@ -6,6 +6,7 @@ use Rattle.line.specs.Sound.{sound}
 use Rattle.waitlist.specs.NextLane.{firstRaised, nextLane}
 use Rattle.event.specs.BigEndian.{bigEndian, numberOf}
 use Rattle.event.specs.Event.{fieldsIn}
+use Rattle.event.specs.ReadWrite.{readAt}
 use Rattle.steps.specs.Effects.{started}
 use Rattle.steps.specs.Step.{stepBy}
 use Rattle.sheet.specs.Run.{run, runOn}
@@ -13,5 +14,5 @@ use Rattle.sheet.specs.Print.{answerLines, answerWords, decimalIn, hexIn, lineb
 use Rattle.claims.specs.ExampleSheet.{examplePrint, exampleSheet}
 
 pub example-sheet : linebook exampleSheet ≡ examplePrint
-unfolding blockRecord inOrder positionOf viewOk sound firstRaised nextLane bigEndian numberOf fieldsIn started stepBy run runOn answerLines answerWords decimalIn hexIn linebook words
+unfolding blockRecord inOrder positionOf viewOk sound firstRaised nextLane bigEndian numberOf fieldsIn started stepBy readAt run runOn answerLines answerWords decimalIn hexIn linebook words
 example-sheet = refl

@@ -13,7 +13,7 @@ use Rattle.event.specs.BigEndian.{bigEndian, numberOf}
 use Rattle.event.specs.Event.{fieldsIn}
 use Rattle.steps.specs.Effects.{started}
 use Rattle.steps.specs.Step.{afterBy, stepBy}
-use Rattle.demand3.specs.Claim.{Demand3, Handed, countFor, entries, entriesAfter, grants, handTo, handed, isRelease, lanesIn, shares, stand, tellsToWait, wakes}
+use Rattle.demand3.specs.Claim.{Demand3, Handed, countFor, entries, entriesAfter, grants, handTo, handed, isRelease, lanesIn, shares, status, tellsToWait, wakes}
 use Rattle.claims.specs.Trials.{book64, fromZero, long62, long63, longEarly, mixed, opening, passesFrom, wanting, wantsFrom, zeroEarly, zeroLater}
 
 -- lane 63 of 64 waits for lane 0: 63 steps. After 62 releases it is not woken, and the 63rd wakes it
@@ -40,7 +40,7 @@ mixed-lanes = refl
 
 -- of a line that searches from lane 0 at each release demand 3 is false: lane 2 is told to wait at distance 2, and three releases do not wake it
 pub from-zero-fails : Demand3 fromZero book64 ((zeroEarly ++ wanting 2 0 ∷ []) ++ (zeroLater ++ [])) → ⊥
-unfolding blockRecord inOrder positionOf viewOk sound firstRaised bigEndian numberOf fieldsIn started stepBy afterBy entries stand lanesIn distance
+unfolding blockRecord inOrder positionOf viewOk sound firstRaised bigEndian numberOf fieldsIn started stepBy afterBy entries status lanesIn distance
 from-zero-fails D =
     let W = D .waits-end zeroEarly zeroLater [] (wanting 2 0) 2 refl refl in
     let h : 0 ≡ W .holder = W .one .only 0 refl in

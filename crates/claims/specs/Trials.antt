@@ -4,53 +4,53 @@ use mathlib.Core.List.{List, [], _∷_, _++_}
 use lib.ListN.{replicate}
 use Rattle.waitlist.specs.NextLane.{firstRaised}
 use Rattle.waitlist.specs.declared.Wakes.{Wakes}
-use Rattle.demand3.specs.Claim.{Given}
+use Rattle.demand3.specs.Claim.{CallBytes}
 
-abbrev pub call : ℕ → List ℕ → Given
+abbrev pub call : ℕ → List ℕ → CallBytes
 call kind body = record { kind = kind; body = body }
 
-abbrev pub opening : ℕ → Given
+abbrev pub opening : ℕ → CallBytes
 opening lanes = call 0x01 (lanes ∷ 0 ∷ 0 ∷ 0 ∷ 64 ∷ [])
 
-abbrev pub wanting : ℕ → ℕ → Given
+abbrev pub wanting : ℕ → ℕ → CallBytes
 wanting lane purpose = call 0x02 (lane ∷ purpose ∷ [])
 
-abbrev pub receiving : ℕ → Given
+abbrev pub receiving : ℕ → CallBytes
 receiving lane = call 0x03 (lane ∷ [])
 
-abbrev pub taking : ℕ → ℕ → Given
+abbrev pub taking : ℕ → ℕ → CallBytes
 taking lane count = call 0x04 (lane ∷ 0 ∷ count ∷ [])
 
-abbrev pub freeing : ℕ → Given
+abbrev pub freeing : ℕ → CallBytes
 freeing lane = call 0x09 (lane ∷ [])
 
-abbrev pub entering : ℕ → ℕ → Given
+abbrev pub entering : ℕ → ℕ → CallBytes
 entering lane count = call 0x0A (lane ∷ 0 ∷ count ∷ [])
 
 abbrev pub book64 : List ℕ
 book64 = replicate 64 255
 
 -- ---- the longest wait: 64 lanes; lane 0 holds, the others want in rising number, and lane 63 is the last to be told to wait
-unfoldable pub wantsFrom : ℕ → ℕ → List Given
+unfoldable pub wantsFrom : ℕ → ℕ → List CallBytes
 wantsFrom lane zero = []
 wantsFrom lane (suc more) = wanting lane 0 ∷ wantsFrom (lane + 1) more
 
-unfoldable pub passesFrom : ℕ → ℕ → List Given
+unfoldable pub passesFrom : ℕ → ℕ → List CallBytes
 passesFrom lane zero = []
 passesFrom lane (suc more) = receiving lane ∷ taking lane 0 ∷ passesFrom (lane + 1) more
 
 -- the calls until lane 63 is told to wait, and then 62 releases: by lane 0 and by lanes 1 to 61; the 63rd is lane 62's
-abbrev pub longEarly : List Given
+abbrev pub longEarly : List CallBytes
 longEarly = opening 64 ∷ wantsFrom 0 64
 
-abbrev pub long62 : List Given
+abbrev pub long62 : List CallBytes
 long62 = taking 0 0 ∷ passesFrom 1 61
 
-abbrev pub long63 : List Given
+abbrev pub long63 : List CallBytes
 long63 = taking 0 0 ∷ passesFrom 1 62
 
 -- ---- whole-book, shared and ordered work mixed, on three lanes: lane 0 holds the whole book, 1 waits to write, 2 waits to read
-abbrev pub mixed : List Given
+abbrev pub mixed : List CallBytes
 mixed =
     wanting 0 2
     ∷ wanting 1 0
@@ -74,8 +74,8 @@ mixed =
 abbrev pub fromZero : ℕ → List ℕ → ℕ → Wakes
 fromZero lanes flags releaser = firstRaised flags 0 lanes
 
-abbrev pub zeroEarly : List Given
+abbrev pub zeroEarly : List CallBytes
 zeroEarly = opening 3 ∷ wanting 0 0 ∷ wanting 1 0 ∷ []
 
-abbrev pub zeroLater : List Given
+abbrev pub zeroLater : List CallBytes
 zeroLater = taking 0 0 ∷ wanting 0 0 ∷ receiving 1 ∷ taking 1 0 ∷ wanting 1 0 ∷ receiving 0 ∷ taking 0 0 ∷ []

@@ -25,16 +25,16 @@ use Rattle.steps.specs.Refusals.{reasons}
 use Rattle.steps.specs.Step.{stepBy}
 use Rattle.steps.proofs.Keeps.{GoodState, holding-value}
 use Rattle.steps.proofs.Lowest.{NotApplies, none-accepts}
-use Rattle.demand3.specs.Claim.{callIn, holding, onward, release, saidTo, woken}
-use Rattle.demand3.proofs.Stands.{standOf}
+use Rattle.demand3.specs.Claim.{callIn, holding, nextCall, release, saidTo, woken}
+use Rattle.demand3.proofs.Status.{statusOf}
 use Rattle.demand3.proofs.Turn.{same-turn, turn-found, turn-up, up-count, up-inside, waits-up}
 
--- ---- the onward calls as events
+-- ---- the nextCall calls as events
 one-byte : (b : ℕ) → numberOf (b ∷ []) ≡ b
 unfolding numberOf
 one-byte b = omega arith
 
-receive-call : (h : ℕ) (p : Purpose) → callIn (onward h (woken p)) ≡ given (Event.Receive h)
+receive-call : (h : ℕ) (p : Purpose) → callIn (nextCall h (woken p)) ≡ given (Event.Receive h)
 unfolding fieldsIn
 receive-call h p = rw (one-byte h)
 
@@ -77,7 +77,7 @@ module _ (x : State) (G : GoodState x) (h : ℕ) (inside : h < x .line .lanes) w
       let n = when-open (x .line) (length (x .book)) (omega arith) (G .numbers) in
       le-ltb mostPointer (v .0 + 0) (omega (arith, holding-value (x .line) (G .facts) h p v e, n .reach))
 
-  onward-goes : (y : Phase) → phaseAt (x .line) h ≡ y → hasTurn y ≡ true → saidTo nextLane x (onward h (standOf y)) .accepted ≡ true
+  onward-goes : (y : Phase) → phaseAt (x .line) h ≡ y → hasTurn y ≡ true → saidTo nextLane x (nextCall h (statusOf y)) .accepted ≡ true
   onward-goes Phase.Idle e t = clash (sym t)
   onward-goes (Phase.Waiting p) e t = clash (sym t)
   onward-goes (Phase.Woken p v) e t = rw (receive-call h p) (receive-goes p v e)
@@ -98,5 +98,5 @@ only-turn l F i w =
     let r = turn-found l F (up-count l F i (waits-up (phaseAt l i) w)) in
     (r .0, record { has = r .1; only = λ j t. same-turn l F j (r .0) t (r .1) })
 
-pub goes : (x : State) → GoodState x → (h : ℕ) → hasTurn (phaseAt (x .line) h) ≡ true → saidTo nextLane x (onward h (standOf (phaseAt (x .line) h))) .accepted ≡ true
+pub goes : (x : State) → GoodState x → (h : ℕ) → hasTurn (phaseAt (x .line) h) ≡ true → saidTo nextLane x (nextCall h (statusOf (phaseAt (x .line) h))) .accepted ≡ true
 goes x G h t = onward-goes x G h (up-inside (x .line) (G .facts) h (turn-up (phaseAt (x .line) h) t)) (phaseAt (x .line) h) refl t

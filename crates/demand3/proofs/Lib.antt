@@ -2,7 +2,7 @@
 pub mod Seen
 pub mod Turn
 pub mod Trace
-pub mod Stands
+pub mod Status
 pub mod Places
 pub mod Goes
 pub mod Theorem

@@ -28,13 +28,13 @@ use Rattle.event.specs.Event.{given}
 use Rattle.event.specs.declared.Event.{Event}
 use Rattle.steps.specs.Answer.{saidBy}
 use Rattle.steps.specs.State.{Result, State}
-use Rattle.steps.specs.Effects.{allEntered, entered, lowered, nextOf, freed, oneLess, opened, ordered, othersDown, purposeOf, reading, released, started, wake, woken, writing}
+use Rattle.steps.specs.Effects.{allEntered, entered, lowered, nextOf, freed, oneLess, ordered, othersDown, purposeOf, reading, released, started, wake, woken, writing}
 use Rattle.steps.specs.Step.{afterBy, stepBy}
 use Rattle.steps.proofs.Cases.{Steps, enters, frees, looks, opens, puts, reads, receives, refuses, seeks, take-reads, take-writes, views, wants, writes}
 use Rattle.steps.proofs.Keeps.{GoodState, fresh-idle, holding-value}
 use Rattle.steps.proofs.Ordered.{busy-by, entered-all, started-by}
 use Rattle.steps.proofs.Stored.{other-phase, placed, same-phase}
-use Rattle.demand3.specs.Claim.{Entered, Entry, Given, Grant, Handed, afterAll, callIn, countFor, enteredNext, entries, grants, grantsBy, handTo, handed, isAccepted, isReset, lanesIn, range, shares, value}
+use Rattle.demand3.specs.Claim.{Entered, Entry, CallBytes, Grant, Handed, afterAll, callIn, countFor, enteredAfter, enteredNext, entries, grants, grantsBy, handTo, handed, isAccepted, isReset, lanesIn, range, shares, start, value}
 use Rattle.demand3.proofs.Seen.{by-entry, entryOf}
 use Rattle.demand3.proofs.Trace.{entryOn, then, then-good}
 
@@ -242,11 +242,11 @@ module _ (x : State) (G : GoodState x) (ns : List Entered) (C : Gathers ns (x .l
   moves e d r (seeks whence offset n z t m g) f = clash f
 
 -- ---- over a stretch of calls with no reset
-pub record Placed (x : State) (gs : List Given) (ns : List Entered) : Type 0 where
+pub record Placed (x : State) (gs : List CallBytes) (ns : List Entered) : Type 0 where
   pub in-order : map (λ (h : Handed). h .place) (handed (grants (x .line .lanes) ns (entries nextLane x gs))) ≡ range (x .line .pointer .0) (total (grants (x .line .lanes) ns (entries nextLane x gs)))
   pub last : afterAll nextLane x gs .line .pointer .0 ≡ x .line .pointer .0 + total (grants (x .line .lanes) ns (entries nextLane x gs))
 
-moves-on : (x : State) → GoodState x → (ns : List Entered) → Gathers ns (x .line) → (g : Given) → isReset (entryOn x g) ≡ false → Moves x ns (entryOn x g) (stepBy nextLane x (callIn g))
+moves-on : (x : State) → GoodState x → (ns : List Entered) → Gathers ns (x .line) → (g : CallBytes) → isReset (entryOn x g) ≡ false → Moves x ns (entryOn x g) (stepBy nextLane x (callIn g))
 moves-on x G ns C g =
     by-entry x g (λ (e : Entry) (r : Result). isReset e ≡ false → Moves x ns e r) (λ d n f. quiet x G ns C _ _ refl refl refl refl (λ k. refl)) (moves x G ns C)
 
@@ -254,7 +254,7 @@ sums : (a b c p q : ℕ) → a ≡ q + c → q ≡ p + b → a ≡ p + (b + c)
 sums a b c p q e f = omega arith
 
 -- one call and then the others, whose N is the same
-first-then : (g : Given) (gs : List Given) (x : State) (ns : List Entered) → Moves x ns (entryOn x g) (stepBy nextLane x (callIn g))
+first-then : (g : CallBytes) (gs : List CallBytes) (x : State) (ns : List Entered) → Moves x ns (entryOn x g) (stepBy nextLane x (callIn g))
     → Placed (then x g) gs (enteredNext ns (entryOn x g)) → Placed x (g ∷ gs) ns
 unfolding entries grants afterBy
 first-then g gs x ns m P =
@@ -268,7 +268,7 @@ first-then g gs x ns m P =
       last = sums (afterAll nextLane (then x g) gs .line .pointer .0) (total a) (total b) (x .line .pointer .0) (then x g .line .pointer .0) last-b (m .pointer) ∙ ap (λ (n : ℕ). x .line .pointer .0 + n) (sym (total-append a b));
     }
 
-pub all-placed : (gs : List Given) (x : State) (ns : List Entered) → GoodState x → Gathers ns (x .line) → count isReset (entries nextLane x gs) ≡ 0 → Placed x gs ns
+pub all-placed : (gs : List CallBytes) (x : State) (ns : List Entered) → GoodState x → Gathers ns (x .line) → count isReset (entries nextLane x gs) ≡ 0 → Placed x gs ns
 unfolding entries grants afterBy handed range
 all-placed [] x ns G C z = record { in-order = refl; last = omega arith }
 all-placed (g ∷ gs) x ns G C z =
@@ -276,22 +276,20 @@ all-placed (g ∷ gs) x ns G C z =
     let m = moves-on x G ns C g f in
     first-then g gs x ns m (all-placed gs (then x g) (enteredNext ns (entryOn x g)) (then-good x g G) (m .gathers) (omega arith))
 
--- ---- after a reset no lane is gathered
-idle-gathers : (l : Line) → all (on isIdle) (l .lane) ≡ true → Gathers [] l
-unfolding countFor
-idle-gathers l e = record { each = λ r. sym (ap countIn (idle-is (phaseAt l r) (all-getD (on isIdle) (l .lane) r idleLane e refl))) }
-
+-- ---- the accepted 0A along a list, resets included
 -- another kind is no reset, accepted or not
 no-reset : {X : Type 0} (b : Bool) → b && false || b && false || b && false ≡ true → X
 no-reset true e = clash (sym e)
 no-reset false e = clash (sym e)
 
-pub reset-gathers : (x : State) (g : Given) → isReset (entryOn x g) ≡ true → Gathers [] (then x g .line)
-reset-gathers x g = by-entry x g (λ (e : Entry) (r : Result). isReset e ≡ true → Gathers [] (r .after .line)) (λ d n f. clash (sym f)) resets
+reset-gathers : (x : State) → GoodState x → (ns : List Entered) → Gathers ns (x .line) → (g : CallBytes) → isReset (entryOn x g) ≡ true → Gathers (enteredNext ns (entryOn x g)) (then x g .line)
+reset-gathers x G ns C g =
+    by-entry x g (λ (e : Entry) (r : Result). isReset e ≡ true → Gathers (enteredNext ns e) (r .after .line)) (λ d n f. clash (sym f)) resets
   where
-    resets : (e : Event) (d : Entry) (r : Result) → Steps nextLane x (given e) r → isReset (entryOf e d (saidBy (r .answer))) ≡ true → Gathers [] (r .after .line)
+    resets : (e : Event) (d : Entry) (r : Result) → Steps nextLane x (given e) r → isReset (entryOf e d (saidBy (r .answer))) ≡ true → Gathers (enteredNext ns (entryOf e d (saidBy (r .answer)))) (r .after .line)
     resets e d r (refuses n) f = clash (sym f)
-    resets e d r (opens lanes capacity z a b c i h) f = idle-gathers (opened lanes capacity) refl
+    resets e d r (opens lanes capacity z a b c i h) f =
+        record { each = λ k. C .each k ∙ ap countIn (G .facts .base .past k (omega arith)) ∙ sym (ap countIn (fresh-idle lanes capacity k)) }
     resets e d r (wants j p h q i) f = no-reset (saidBy (r .answer) .accepted) f
     resets e d r (receives j p v h q) f = clash (sym f)
     resets e d r (take-writes j c v h q i) f = clash (sym f)
@@ -302,5 +300,17 @@ reset-gathers x g = by-entry x g (λ (e : Entry) (r : Result). isReset e ≡ tru
     resets e d r (looks j k v h q) f = no-reset (saidBy (r .answer) .accepted) f
     resets e d r (frees j v h q) f = clash (sym f)
     resets e d r (enters j c h q i o) f = no-reset (saidBy (r .answer) .accepted) f
-    resets e d r (views displacement extent used blocks z o i) f = idle-gathers (r .after .line) i
-    resets e d r (seeks whence offset n z t m i) f = idle-gathers (r .after .line) i
+    resets e d r (views displacement extent used blocks z o i) f = record { each = C .each }
+    resets e d r (seeks whence offset n z t m i) f = record { each = C .each }
+
+pub gathers-all : (gs : List CallBytes) (x : State) (ns : List Entered) → GoodState x → Gathers ns (x .line) → Gathers (enteredAfter ns (entries nextLane x gs)) (afterAll nextLane x gs .line)
+unfolding entries enteredAfter afterBy
+gathers-all [] x ns G C = C
+gathers-all (g ∷ gs) x ns G C =
+    gathers-all gs (then x g) (enteredNext ns (entryOn x g)) (then-good x g G)
+    (by-test (isReset (entryOn x g)) (reset-gathers x G ns C g) (λ f. moves-on x G ns C g f .gathers))
+
+-- at the start no lane is gathered
+pub start-gathers : (book : List ℕ) → Gathers [] (start book .line)
+unfolding countFor
+start-gathers book = record { each = λ r. sym (ap countIn (fresh-idle 0 0 r)) }

@@ -17,7 +17,7 @@ use Rattle.steps.specs.Answer.{Said, saidBy}
 use Rattle.steps.specs.State.{Result, State}
 use Rattle.steps.specs.Step.{refuse, stepBy}
 use Rattle.steps.proofs.Cases.{Steps, refuses, steps}
-use Rattle.demand3.specs.Claim.{Entry, Given, callIn, entry, saidTo}
+use Rattle.demand3.specs.Claim.{Entry, CallBytes, callIn, entry, saidTo}
 
 -- ---- the fields of an event that an entry shows; the others are those of the bytes
 abbrev pub laneFrom : Event → ℕ → ℕ
@@ -119,7 +119,7 @@ shows bytes said k t =
     k t
 
 -- ---- from the call to its event
-pub shown : (g : Given) (said : Said) (e : Event) → callIn g ≡ given e → isListed (kindOf e) ≡ true → entry g said ≡ entryOf e (entry g said) said
+pub shown : (g : CallBytes) (said : Said) (e : Event) → callIn g ≡ given e → isListed (kindOf e) ≡ true → entry g said ≡ entryOf e (entry g said) said
 shown g said e q t =
     by-test (isListed (g .kind))
     (λ l. by-test (leb (bodyLength (g .kind)) (length (g .body)))
@@ -148,7 +148,7 @@ listed-or (Event.Seek whence offset) = inl refl
 listed-or Event.Unlisted = inr refl
 
 -- what is so of every refusal and of every event's entry is so of the entry that a call makes
-pub by-entry : (x : State) (g : Given) (P : Entry → Result → Type 0)
+pub by-entry : (x : State) (g : CallBytes) (P : Entry → Result → Type 0)
     → ((d : Entry) (n : ℕ) → P (record { kind = d .kind; lane = d .lane; purpose = d .purpose; count = d .count; said = saidBy (refuse (suc n) x .answer) }) (refuse (suc n) x))
     → ((e : Event) (d : Entry) (r : Result) → Steps nextLane x (given e) r → P (entryOf e d (saidBy (r .answer))) r)
     → P (entry g (saidTo nextLane x g)) (stepBy nextLane x (callIn g))

@@ -23,30 +23,30 @@ use Rattle.steps.specs.Effects.{Search, allEntered, entered, freed, nextOf, oth
 use Rattle.steps.specs.Step.{afterBy, stepBy}
 use Rattle.steps.proofs.Cases.{Steps, enters, frees, looks, opens, puts, reads, receives, refuses, seeks, take-reads, take-writes, views, wants, writes}
 use Rattle.steps.proofs.Keeps.{GoodState, fresh-idle, unopened-good}
-use Rattle.demand3.specs.Claim.{Demand3, DemandThree, Entry, Given, GoesOn, Grant, Handed, InOrder, OnlyTurn, Standing, WaitEnds, afterAll, callIn, entries, entriesAfter, entriesOf, entryAfter, grants, handed, hasTurn, isAccepted, isReset, isWaiting, lanesIn, off, range, stand, standNext, start, tellsToWait, value, waiting, wantsBy}
+use Rattle.demand3.specs.Claim.{Demand3, DemandThree, Entry, CallBytes, Grant, Handed, InOrder, NextAccepted, OneTurn, OnlyTurn, Status, WaitEnds, afterAll, callIn, entries, entriesAfter, enteredAfter, entriesOf, entryAfter, grants, hasTurn, isAccepted, isReset, isWaiting, lanesIn, off, status, statusNext, start, tellsToWait, value, waiting, wantsBy}
 use Rattle.demand3.proofs.Goes.{OnlyPhase, goes, only-turn}
-use Rattle.demand3.proofs.Places.{Placed, all-placed, reset-gathers, total, wake-lanes}
+use Rattle.demand3.proofs.Places.{Placed, all-placed, gathers-all, start-gathers, total, wake-lanes}
 use Rattle.demand3.proofs.Seen.{by-entry, entryOf}
-use Rattle.demand3.proofs.Stands.{stand-call, standOf, stands, turn-is, waits-is}
+use Rattle.demand3.proofs.Status.{stand-call, statusOf, stands, turn-is, waits-is}
 use Rattle.demand3.proofs.Trace.{entryOn, fair, sent, single, then, then-good}
 
 -- ---- the states along a list
-after-good : (gs : List Given) (x : State) → GoodState x → GoodState (afterAll nextLane x gs)
+after-good : (gs : List CallBytes) (x : State) → GoodState x → GoodState (afterAll nextLane x gs)
 unfolding afterBy
 after-good [] x G = G
 after-good (g ∷ gs) x G = after-good gs (then x g) (then-good x g G)
 
-after-append : (a b : List Given) (x : State) → afterAll nextLane x (a ++ b) ≡ afterAll nextLane (afterAll nextLane x a) b
+after-append : (a b : List CallBytes) (x : State) → afterAll nextLane x (a ++ b) ≡ afterAll nextLane (afterAll nextLane x a) b
 unfolding afterBy
 after-append [] b x = refl
 after-append (g ∷ a) b x = after-append a b (then x g)
 
-after-one : (early : List Given) (g : Given) (x : State) → afterAll nextLane x (early ++ g ∷ []) ≡ then (afterAll nextLane x early) g
+after-one : (early : List CallBytes) (g : CallBytes) (x : State) → afterAll nextLane x (early ++ g ∷ []) ≡ then (afterAll nextLane x early) g
 unfolding afterBy
 after-one early g x = after-append early (g ∷ []) x
 
 -- ---- N, by the answers
-lanes-call : (x : State) (g : Given) → cond (isAccepted 0x01 (entryOn x g)) (value 0 (entryOn x g)) (x .line .lanes) ≡ then x g .line .lanes
+lanes-call : (x : State) (g : CallBytes) → cond (isAccepted 0x01 (entryOn x g)) (value 0 (entryOn x g)) (x .line .lanes) ≡ then x g .line .lanes
 lanes-call x g =
     by-entry x g (λ (e : Entry) (r : Result). cond (isAccepted 0x01 e) (value 0 e) (x .line .lanes) ≡ r .after .line .lanes) (λ d n. refl) lanes-event
   where
@@ -66,27 +66,27 @@ lanes-call x g =
     lanes-event e d r (views displacement extent used blocks z o i) = refl
     lanes-event e d r (seeks whence offset n z t m i) = refl
 
-lanes-are : (gs : List Given) (x : State) → lanesIn (x .line .lanes) (entries nextLane x gs) ≡ afterAll nextLane x gs .line .lanes
+lanes-are : (gs : List CallBytes) (x : State) → lanesIn (x .line .lanes) (entries nextLane x gs) ≡ afterAll nextLane x gs .line .lanes
 unfolding entries lanesIn afterBy
 lanes-are [] x = refl
 lanes-are (g ∷ gs) x = ap (λ (n : ℕ). lanesIn n (entries nextLane (then x g) gs)) (lanes-call x g) ∙ lanes-are gs (then x g)
 
 -- ---- what is claimed after the calls `early`
-module _ (book : List ℕ) (early : List Given) where
+module _ (book : List ℕ) (early : List CallBytes) where
   abbrev here : State
   here = afterAll nextLane (start book) early
 
   good : GoodState here
   good = after-good early (start book) (unopened-good book)
 
-  stood : (i : ℕ) → stand i off (entriesOf nextLane book early) ≡ standOf (phaseAt (here .line) i)
+  stood : (i : ℕ) → status i off (entriesOf nextLane book early) ≡ statusOf (phaseAt (here .line) i)
   stood i =
-      ap (λ (s : Standing). stand i s (entriesOf nextLane book early)) (sym (ap standOf (fresh-idle 0 0 i))) ∙ stands early (start book) (unopened-good book) i
+      ap (λ (s : Status). status i s (entriesOf nextLane book early)) (sym (ap statusOf (fresh-idle 0 0 i))) ∙ stands early (start book) (unopened-good book) i
 
   lanes-here : lanesIn 0 (entriesOf nextLane book early) ≡ here .line .lanes
   lanes-here = lanes-are early (start book)
 
-  waits-here : (i : ℕ) → isWaiting (stand i off (entriesOf nextLane book early)) ≡ true → phases.isWaiting (phaseAt (here .line) i) ≡ true
+  waits-here : (i : ℕ) → isWaiting (status i off (entriesOf nextLane book early)) ≡ true → phases.isWaiting (phaseAt (here .line) i) ≡ true
   waits-here i w = sym (waits-is (phaseAt (here .line) i)) ∙ ap isWaiting (sym (stood i)) ∙ w
 
   one-turn : (h : ℕ) → OnlyPhase (here .line) h → OnlyTurn (entriesOf nextLane book early) h
@@ -96,12 +96,13 @@ module _ (book : List ℕ) (early : List Given) where
         only = λ j t. a .only j (sym (turn-is (phaseAt (here .line) j)) ∙ ap hasTurn (sym (stood j)) ∙ t);
       }
 
-  goes-here : (i : ℕ) → isWaiting (stand i off (entriesOf nextLane book early)) ≡ true → GoesOn nextLane book early
-  goes-here i w =
-      let h = only-turn (here .line) (good .facts) i (waits-here i w) in
-      record { holder = h .0; one = one-turn (h .0) (h .1); next = rw (stood (h .0)) (goes here good (h .0) (h .1 .has)) }
+  turn-here : (i : ℕ) → isWaiting (status i off (entriesOf nextLane book early)) ≡ true → OneTurn nextLane book early
+  turn-here i w = let h = only-turn (here .line) (good .facts) i (waits-here i w) in record { holder = h .0; one = one-turn (h .0) (h .1) }
 
-  wait-ends : (i : ℕ) (later : List Given) → phases.isWaiting (phaseAt (here .line) i) ≡ true → WaitEnds nextLane book i early later
+  goes-here : (h : ℕ) → hasTurn (status h off (entriesOf nextLane book early)) ≡ true → NextAccepted nextLane book early h
+  goes-here h t = rw (stood h) (goes here good h (sym (turn-is (phaseAt (here .line) h)) ∙ ap hasTurn (sym (stood h)) ∙ t))
+
+  wait-ends : (i : ℕ) (later : List CallBytes) → phases.isWaiting (phaseAt (here .line) i) ≡ true → WaitEnds nextLane book i early later
   wait-ends i later w =
       let h = only-turn (here .line) (good .facts) i w in
       record {
@@ -109,35 +110,36 @@ module _ (book : List ℕ) (early : List Given) where
         one = one-turn (h .0) (h .1);
         sent = λ d. sent later here i (h .0) good w (h .1 .has) (rw lanes-here at d);
         single = single later here i (h .0) good w (h .1 .has);
-        fair = λ z j. fair later here i (h .0) j good w (h .1 .has) z .0;
+        others-once = λ z j. fair later here i (h .0) j good w (h .1 .has) z .0;
       }
 
   -- the call that tells lane i to wait leaves it waiting
-  told-waits : (told : Given) (i : ℕ) → tellsToWait i (entryAfter nextLane book early told) ≡ true → phases.isWaiting (phaseAt (then here told .line) i) ≡ true
+  told-waits : (told : CallBytes) (i : ℕ) → tellsToWait i (entryAfter nextLane book early told) ≡ true → phases.isWaiting (phaseAt (then here told .line) i) ≡ true
   told-waits told i t =
       let e = entryAfter nextLane book early told in
       let w : wantsBy i e ≡ true = and-left (wantsBy i e) _ t in
-      let s : standNext i (standOf (phaseAt (here .line) i)) e ≡ waiting (purposeOf (e .purpose)) = rw (t, w) in
+      let s : statusNext i (statusOf (phaseAt (here .line) i)) e ≡ waiting (purposeOf (e .purpose)) = rw (t, w) in
       sym (waits-is (phaseAt (then here told .line) i)) ∙ ap isWaiting (sym (stand-call here good i told) ∙ s)
 
 -- ---- the places
-module _ (book : List ℕ) (early later : List Given) (first : Given) where
-  abbrev begun : List Given
+module _ (book : List ℕ) (early later : List CallBytes) (first : CallBytes) where
+  abbrev begun : List CallBytes
   begun = early ++ first ∷ []
 
-  placed-here : isReset (entryAfter nextLane book early first) ≡ true → count isReset (entriesAfter nextLane book begun later) ≡ 0 → InOrder nextLane book begun later
-  placed-here r z =
-      let e = after-one early first (start book) in
-      let P = all-placed later (here book begun) [] (good book begun) (rw e (reset-gathers (here book early) first r)) z in
+  placed-here : count isReset (entriesAfter nextLane book begun later) ≡ 0 → InOrder nextLane book begun later
+  placed-here z =
+      let ns = enteredAfter [] (entriesOf nextLane book begun) in
+      let P = all-placed later (here book begun) ns (good book begun) (gathers-all begun (start book) [] (unopened-good book) (start-gathers book)) z in
       let last = ap (λ (x : State). x .line .pointer .0) (after-append begun later (start book)) ∙ P .last in
       let n = lanes-here book begun in
-      let m : here book (begun ++ later) .line .pointer .0 - here book begun .line .pointer .0 ≡ total (grants (here book begun .line .lanes) [] (entriesAfter nextLane book begun later)) = omega (arith, last) in
+      let m : here book (begun ++ later) .line .pointer .0 - here book begun .line .pointer .0 ≡ total (grants (here book begun .line .lanes) ns (entriesAfter nextLane book begun later)) = omega (arith, last) in
       record { places = rw (n, m) (P .in-order); last = rw n last }
 
 pub demand-three : DemandThree
 demand-three book calls =
     record {
       waits-end = λ early later rest told i q t. wait-ends book (early ++ told ∷ []) i later (rw (after-one early told (start book)) (told-waits book early told i t));
-      goes-on = λ early rest i q w. goes-here book early i w;
-      in-order = λ early later rest first q r z. placed-here book early later first r z;
+      one-turn = λ early rest i q w. turn-here book early i w;
+      goes-on = λ early rest h q t. goes-here book early h t;
+      in-order = λ early later rest first q r z. placed-here book early later first z;
     }

@@ -19,25 +19,25 @@ use Rattle.steps.specs.State.{Result, State}
 use Rattle.steps.specs.Step.{stepBy}
 use Rattle.steps.proofs.Cases.{steps}
 use Rattle.steps.proofs.Keeps.{GoodState, keeps}
-use Rattle.demand3.specs.Claim.{Entry, Given, callIn, entries, entry, isRelease, saidTo, wakes, wantsBy}
+use Rattle.demand3.specs.Claim.{Entry, CallBytes, callIn, entries, entry, isRelease, saidTo, wakes, wantsBy}
 use Rattle.demand3.proofs.Seen.{by-entry}
 use Rattle.demand3.proofs.Turn.{Rests, Turn, calm, its, nearer, rests, turn, turn-up, up-inside, waits-no-turn}
 
 -- the state after one call, and what it is
-abbrev pub then : State → Given → State
+abbrev pub then : State → CallBytes → State
 then x g = stepBy nextLane x (callIn g) .after
 
-abbrev pub entryOn : State → Given → Entry
+abbrev pub entryOn : State → CallBytes → Entry
 entryOn x g = entry g (saidTo nextLane x g)
 
-pub then-good : (x : State) (g : Given) → GoodState x → GoodState (then x g)
+pub then-good : (x : State) (g : CallBytes) → GoodState x → GoodState (then x g)
 then-good x g G = keeps G (steps nextLane x (callIn g))
 
-turn-on : (x : State) (G : GoodState x) (i h : ℕ) → isWaiting (phaseAt (x .line) i) ≡ true → hasTurn (phaseAt (x .line) h) ≡ true → (g : Given)
+turn-on : (x : State) (G : GoodState x) (i h : ℕ) → isWaiting (phaseAt (x .line) i) ≡ true → hasTurn (phaseAt (x .line) h) ≡ true → (g : CallBytes)
     → Turn x i h (entryOn x g) (stepBy nextLane x (callIn g))
 turn-on x G i h wi th g = by-entry x g (Turn x i h) (λ d n. calm refl (λ j. refl) refl wi th) (turn x G i h wi th)
 
-rests-on : (x : State) (G : GoodState x) (i : ℕ) → isWaiting (phaseAt (x .line) i) ≡ false → (g : Given) → Rests i (entryOn x g) (stepBy nextLane x (callIn g))
+rests-on : (x : State) (G : GoodState x) (i : ℕ) → isWaiting (phaseAt (x .line) i) ≡ false → (g : CallBytes) → Rests i (entryOn x g) (stepBy nextLane x (callIn g))
 rests-on x G i wi g = by-entry x g (Rests i) (λ d n. record { unwoken = refl; unwaiting = inr wi }) (rests x G i wi)
 
 distance-some : (n h i : ℕ) → h < n → i ≢ h → 0 < distance n h i
@@ -49,7 +49,7 @@ waiter-other : (l : Line) (i h : ℕ) → isWaiting (phaseAt l i) ≡ true → h
 waiter-other l i h wi th z = both th (ap (λ (k : ℕ). hasTurn (phaseAt l k)) (sym z) ∙ waits-no-turn (phaseAt l i) wi)
 
 -- the wake is sent no later than at the release whose number is the distance
-pub sent : (gs : List Given) (x : State) (i h : ℕ) → GoodState x → isWaiting (phaseAt (x .line) i) ≡ true → hasTurn (phaseAt (x .line) h) ≡ true
+pub sent : (gs : List CallBytes) (x : State) (i h : ℕ) → GoodState x → isWaiting (phaseAt (x .line) i) ≡ true → hasTurn (phaseAt (x .line) h) ≡ true
     → distance (x .line .lanes) h i ≤ count isRelease (entries nextLane x gs) → 1 ≤ count (wakes i) (entries nextLane x gs)
 unfolding entries
 sent [] x i h G wi th d =
@@ -70,7 +70,7 @@ sent (g ∷ gs) x i h G wi th d = go (turn-on x G i h wi th g) (λ j. sent gs (t
         let r = ih j w t (rw n (omega arith)) in omega arith
 
 -- until i is woken a lane is woken at most once, and only one that is nearer to i than the lane with the turn
-pub fair : (gs : List Given) (x : State) (i h j : ℕ) → GoodState x → isWaiting (phaseAt (x .line) i) ≡ true → hasTurn (phaseAt (x .line) h) ≡ true
+pub fair : (gs : List CallBytes) (x : State) (i h j : ℕ) → GoodState x → isWaiting (phaseAt (x .line) i) ≡ true → hasTurn (phaseAt (x .line) h) ≡ true
     → count (wakes i) (entries nextLane x gs) ≡ 0
     → (count (wakes j) (entries nextLane x gs) ≤ 1) × (distance (x .line .lanes) h i ≤ distance (x .line .lanes) j i → count (wakes j) (entries nextLane x gs) ≡ 0)
 unfolding entries
@@ -96,7 +96,7 @@ fair (g ∷ gs) x i h j G wi th z = go (turn-on x G i h wi th g) (λ k. fair gs 
         ]
 
 -- a lane that does not wait is not woken before its next accepted want
-pub never : (gs : List Given) (x : State) (i : ℕ) → GoodState x → isWaiting (phaseAt (x .line) i) ≡ false → count (wantsBy i) (entries nextLane x gs) ≡ 0
+pub never : (gs : List CallBytes) (x : State) (i : ℕ) → GoodState x → isWaiting (phaseAt (x .line) i) ≡ false → count (wantsBy i) (entries nextLane x gs) ≡ 0
     → count (wakes i) (entries nextLane x gs) ≡ 0
 unfolding entries
 never [] x i G wi z = refl
@@ -111,7 +111,7 @@ never (g ∷ gs) x i G wi z = go (rests-on x G i wi g) (λ w. never gs (then x g
         either (inr t) = let q = ih t in omega arith
 
 -- a lane that waits is woken at most once before its next accepted want
-pub single : (gs : List Given) (x : State) (i h : ℕ) → GoodState x → isWaiting (phaseAt (x .line) i) ≡ true → hasTurn (phaseAt (x .line) h) ≡ true
+pub single : (gs : List CallBytes) (x : State) (i h : ℕ) → GoodState x → isWaiting (phaseAt (x .line) i) ≡ true → hasTurn (phaseAt (x .line) h) ≡ true
     → count (wantsBy i) (entries nextLane x gs) ≡ 0 → count (wakes i) (entries nextLane x gs) ≤ 1
 unfolding entries
 single [] x i h G wi th z = omega arith

@@ -19,11 +19,11 @@ use Rattle.steps.specs.Step.{afterBy, stepBy}
 
 -- ---- lists of calls
 -- a call is a kind and body bytes: any kind, unlisted ones too; any bytes, cut short or too long too
-pub record Given : Type 0 where
+pub record CallBytes : Type 0 where
   pub kind : ℕ
   pub body : List ℕ
 
-abbrev pub callIn : Given → Call
+abbrev pub callIn : CallBytes → Call
 callIn g = callOf (g .kind) (g .body)
 
 -- "Its list starts with an unopened line and a lent buffer of any length and any bytes"
@@ -31,10 +31,10 @@ abbrev pub start : List ℕ → State
 start book = record { line = unopened; book = book }
 
 -- the line and the buffer as a list of calls leaves them. `search` is how a release finds the lane to wake: `nextLane`
-abbrev pub afterAll : Search → State → List Given → State
+abbrev pub afterAll : Search → State → List CallBytes → State
 afterAll search x gs = afterBy search x (map callIn gs)
 
-abbrev pub saidTo : Search → State → Given → Said
+abbrev pub saidTo : Search → State → CallBytes → Said
 saidTo search x g = saidBy (stepBy search x (callIn g) .answer)
 
 -- a call and what its answer says. The body's first byte is the lane of a call that names one; the second is the purpose of a want, or
@@ -46,10 +46,10 @@ pub record Entry : Type 0 where
   pub count : ℕ
   pub said : Said
 
-abbrev pub entry : Given → Said → Entry
+abbrev pub entry : CallBytes → Said → Entry
 entry g said = record { kind = g .kind; lane = getD (g .body) 0 0; purpose = getD (g .body) 1 0; count = numberOf (take 2 (drop 1 (g .body))); said = said }
 
-unfoldable pub entries : Search → State → List Given → List Entry
+unfoldable pub entries : Search → State → List CallBytes → List Entry
 entries search x [] = []
 entries search x (g ∷ gs) = entry g (saidTo search x g) ∷ entries search (stepBy search x (callIn g) .after) gs
 
@@ -76,7 +76,7 @@ isRelease e = isAccepted 0x04 e || isAccepted 0x09 e
 
 -- "A lane is told to wait by the answer waits to its want": the answer waits has no value, holds has one
 abbrev pub tellsToWait : ℕ → Entry → Bool
-tellsToWait i e = wantsBy i e && not (hasValues e)
+tellsToWait i e = wantsBy i e && (eqb (e .said .number) 0x02 && not (hasValues e))
 
 -- "which an accepted release does by answering wakes with its number": the values after start and count, of 09 all of them
 abbrev pub wokenBy : Entry → List ℕ
@@ -95,39 +95,40 @@ lanesIn n [] = n
 lanesIn n (e ∷ es) = lanesIn (cond (isAccepted 0x01 e) (value 0 e) n) es
 
 -- ---- how a lane stands
-pub data Standing : Type 0 where
+pub data Status : Type 0 where
   -- none of these
-  off : Standing
+  off : Status
   -- told to wait and its wake not sent; its wake under way; holding
-  waiting woken holding : Purpose → Standing
+  waiting woken holding : Purpose → Status
 
-abbrev pub purposeFor : Standing → Purpose
+abbrev pub purposeFor : Status → Purpose
 purposeFor off = Purpose.SharedWrite
 purposeFor (waiting p) = p
 purposeFor (woken p) = p
 purposeFor (holding p) = p
 
--- "It waits from there until its wake is sent". "The wake is under way until the lane's accepted 03". "A lane holds from the answer holds .. until its accepted release"
-abbrev pub standNext : ℕ → Standing → Entry → Standing
-standNext i s e =
+-- "It waits from there until its wake is sent". "The wake is under way until the lane's accepted 03". "A lane holds from the answer holds,
+-- to its want or receive, until its accepted release"
+abbrev pub statusNext : ℕ → Status → Entry → Status
+statusNext i s e =
     cond (wantsBy i e) (cond (tellsToWait i e) (waiting (purposeOf (e .purpose))) (holding (purposeOf (e .purpose))))
     (cond (receivesBy i e) (holding (purposeFor s))
-    (cond (isRelease e && eqb (e .lane) i) off
     (cond (wakes i e) (woken (purposeFor s))
+    (cond (isRelease e && eqb (e .lane) i) off
     s)))
 
-unfoldable pub stand : ℕ → Standing → List Entry → Standing
-stand i s [] = s
-stand i s (e ∷ es) = stand i (standNext i s e) es
+unfoldable pub status : ℕ → Status → List Entry → Status
+status i s [] = s
+status i s (e ∷ es) = status i (statusNext i s e) es
 
-abbrev pub isWaiting : Standing → Bool
+abbrev pub isWaiting : Status → Bool
 isWaiting off = false
 isWaiting (waiting p) = true
 isWaiting (woken p) = false
 isWaiting (holding p) = false
 
 -- holding, or its wake under way
-abbrev pub hasTurn : Standing → Bool
+abbrev pub hasTurn : Status → Bool
 hasTurn off = false
 hasTurn (waiting p) = false
 hasTurn (woken p) = true
@@ -135,20 +136,20 @@ hasTurn (holding p) = true
 
 -- h is the one lane that holds or is being woken after these entries
 pub record OnlyTurn (es : List Entry) (h : ℕ) : Type 0 where
-  pub has : hasTurn (stand h off es) ≡ true
-  pub only : (j : ℕ) → hasTurn (stand j off es) ≡ true → j ≡ h
+  pub has : hasTurn (status h off es) ≡ true
+  pub only : (j : ℕ) → hasTurn (status j off es) ≡ true → j ≡ h
 
 -- the call by which lane h goes on: "03 while the wake is under way; 04 with count 0 by a holder of purpose 0 or 1; 09 by one of purpose 2"
-abbrev pub release : ℕ → Purpose → Given
+abbrev pub release : ℕ → Purpose → CallBytes
 release h Purpose.SharedWrite = record { kind = 0x04; body = h ∷ 0 ∷ 0 ∷ [] }
 release h Purpose.SharedRead = record { kind = 0x04; body = h ∷ 0 ∷ 0 ∷ [] }
 release h Purpose.WholeBook = record { kind = 0x09; body = h ∷ [] }
 
-abbrev pub onward : ℕ → Standing → Given
-onward h off = record { kind = 0; body = [] }
-onward h (waiting p) = record { kind = 0; body = [] }
-onward h (woken p) = record { kind = 0x03; body = h ∷ [] }
-onward h (holding p) = release h p
+abbrev pub nextCall : ℕ → Status → CallBytes
+nextCall h off = record { kind = 0; body = [] }
+nextCall h (waiting p) = record { kind = 0; body = [] }
+nextCall h (woken p) = record { kind = 0x03; body = h ∷ [] }
+nextCall h (holding p) = release h p
 
 -- ---- the places handed out
 -- `count` places from `from` on, to one lane
@@ -181,7 +182,7 @@ enteredBy e = record { lane = e .lane; count = e .count }
 
 -- the 0A that completes an ordered call: its answer has values, those of the others have none
 abbrev pub completes : Entry → Bool
-completes e = isAccepted 0x0A e && hasValues e
+completes e = isAccepted 0x0A e && (eqb (e .said .number) 0x0A && hasValues e)
 
 -- the accepted 0A after one more entry
 abbrev pub enteredNext : List Entered → Entry → List Entered
@@ -190,8 +191,13 @@ enteredNext ns e = cond (completes e) [] (cond (isAccepted 0x0A e) (enteredBy e 
 -- "An accepted 04 hands out its region's places, rising, to its lane. The 0A that completes an ordered call hands out .."; n is N
 abbrev pub grantsBy : ℕ → List Entered → Entry → List Grant
 grantsBy n ns e =
-    cond (isAccepted 0x04 e) (record { lane = e .lane; from = value 0 e; count = value 1 e } ∷ [])
+    cond (isAccepted 0x04 e) (record { lane = e .lane; from = value 0 e; count = e .count } ∷ [])
     (cond (completes e) (shares (enteredBy e ∷ ns) 0 (value 0 e) n) [])
+
+-- the accepted 0A after a list of entries
+unfoldable pub enteredAfter : List Entered → List Entry → List Entered
+enteredAfter ns [] = ns
+enteredAfter ns (e ∷ es) = enteredAfter (enteredNext ns e) es
 
 unfoldable pub grants : ℕ → List Entered → List Entry → List Grant
 grants n ns [] = []
@@ -214,38 +220,38 @@ range first (suc count) = first ∷ range (suc first) count
 -- ---- the claim
 module _ (search : Search) (book : List ℕ) where
   -- the entries of a list from the start, and of a stretch `later` after the calls `early`
-  abbrev pub entriesOf : List Given → List Entry
+  abbrev pub entriesOf : List CallBytes → List Entry
   entriesOf early = entries search (start book) early
 
-  abbrev pub entriesAfter : List Given → List Given → List Entry
+  abbrev pub entriesAfter : List CallBytes → List CallBytes → List Entry
   entriesAfter early later = entries search (afterAll search (start book) early) later
 
   -- one call after the calls `early`, with what its answer says
-  abbrev pub entryAfter : List Given → Given → Entry
+  abbrev pub entryAfter : List CallBytes → CallBytes → Entry
   entryAfter early g = entry g (saidTo search (afterAll search (start book) early) g)
 
-  abbrev pub pointerAfter : List Given → ℕ
+  abbrev pub pointerAfter : List CallBytes → ℕ
   pointerAfter early = afterAll search (start book) early .line .pointer .0
 
   -- N after the calls `early`; and among the calls `later` that follow: the accepted releases, the wakes of lane j, its accepted wants
-  abbrev pub lanesAfter : List Given → ℕ
+  abbrev pub lanesAfter : List CallBytes → ℕ
   lanesAfter early = lanesIn 0 (entriesOf early)
 
-  abbrev pub releases : List Given → List Given → ℕ
+  abbrev pub releases : List CallBytes → List CallBytes → ℕ
   releases early later = count isRelease (entriesAfter early later)
 
-  abbrev pub wakesOf : ℕ → List Given → List Given → ℕ
+  abbrev pub wakesOf : ℕ → List CallBytes → List CallBytes → ℕ
   wakesOf j early later = count (wakes j) (entriesAfter early later)
 
-  abbrev pub wantsOf : ℕ → List Given → List Given → ℕ
+  abbrev pub wantsOf : ℕ → List CallBytes → List CallBytes → ℕ
   wantsOf j early later = count (wantsBy j) (entriesAfter early later)
 
-  -- what `later` hands out, where no lane was gathered before it
-  abbrev pub grantsIn : List Given → List Given → List Grant
-  grantsIn early later = grants (lanesAfter early) [] (entriesAfter early later)
+  -- what `later` hands out
+  abbrev pub grantsIn : List CallBytes → List CallBytes → List Grant
+  grantsIn early later = grants (lanesAfter early) (enteredAfter [] (entriesOf early)) (entriesAfter early later)
 
   -- lane i was told to wait by the last of the calls `early`; `later` are the calls that follow, as far as they are looked at
-  pub record WaitEnds (i : ℕ) (early later : List Given) : Type 0 where
+  pub record WaitEnds (i : ℕ) (early later : List CallBytes) : Type 0 where
     -- the lane then holding or being woken
     pub holder : ℕ
     pub one : OnlyTurn (entriesOf early) holder
@@ -254,30 +260,35 @@ module _ (search : Search) (book : List ℕ) where
     -- no second one before its next accepted want
     pub single : wantsOf i early later ≡ 0 → wakesOf i early later ≤ 1
     -- until its wake each other lane is woken at most once
-    pub fair : wakesOf i early later ≡ 0 → (j : ℕ) → wakesOf j early later ≤ 1
+    pub others-once : wakesOf i early later ≡ 0 → (j : ℕ) → wakesOf j early later ≤ 1
 
-  -- after the calls `early` a lane waits: exactly one lane holds or is being woken, and its next call would be accepted
-  pub record GoesOn (early : List Given) : Type 0 where
+  -- after the calls `early` exactly one lane holds or is being woken
+  pub record OneTurn (early : List CallBytes) : Type 0 where
     pub holder : ℕ
     pub one : OnlyTurn (entriesOf early) holder
-    pub next : saidTo search (afterAll search (start book) early) (onward holder (stand holder off (entriesOf early))) .accepted ≡ true
+
+  -- after the calls `early` the call by which lane h goes on would be accepted
+  abbrev pub NextAccepted : List CallBytes → ℕ → Type 0
+  NextAccepted early h = saidTo search (afterAll search (start book) early) (nextCall h (status h off (entriesOf early))) .accepted ≡ true
 
   -- the places handed out by `later`, after `early`, which ends with an opening, a change of view or a seek: first, first + 1, .. last − 1
-  pub record InOrder (early later : List Given) : Type 0 where
+  pub record InOrder (early later : List CallBytes) : Type 0 where
     pub places : map (λ (h : Handed). h .place) (handed (grantsIn early later)) ≡ range (pointerAfter early) (pointerAfter (early ++ later) - pointerAfter early)
     pub last : pointerAfter (early ++ later) ≡ pointerAfter early + sumOf (λ (g : Grant). g .count) (grantsIn early later)
 
-  pub record Demand3 (calls : List Given) : Type 0 where
+  pub record Demand3 (calls : List CallBytes) : Type 0 where
     -- whenever a lane i is told to wait, by the answer to the call `told`
-    pub waits-end : (early later rest : List Given) (told : Given) (i : ℕ) → calls ≡ (early ++ told ∷ []) ++ (later ++ rest)
+    pub waits-end : (early later rest : List CallBytes) (told : CallBytes) (i : ℕ) → calls ≡ (early ++ told ∷ []) ++ (later ++ rest)
         → tellsToWait i (entryAfter early told) ≡ true → WaitEnds i (early ++ told ∷ []) later
     -- at each point of the list, while any lane waits
-    pub goes-on : (early rest : List Given) (i : ℕ) → calls ≡ early ++ rest → isWaiting (stand i off (entriesOf early)) ≡ true → GoesOn early
+    pub one-turn : (early rest : List CallBytes) (i : ℕ) → calls ≡ early ++ rest → isWaiting (status i off (entriesOf early)) ≡ true → OneTurn early
+    -- at each point of the list, of each lane that holds or has its wake under way
+    pub goes-on : (early rest : List CallBytes) (h : ℕ) → calls ≡ early ++ rest → hasTurn (status h off (entriesOf early)) ≡ true → NextAccepted early h
     -- from an opening, seek or change of view to the next of these or the list's end
-    pub in-order : (early later rest : List Given) (first : Given) → calls ≡ (early ++ first ∷ []) ++ (later ++ rest)
+    pub in-order : (early later rest : List CallBytes) (first : CallBytes) → calls ≡ (early ++ first ∷ []) ++ (later ++ rest)
         → isReset (entryAfter early first) ≡ true → count isReset (entriesAfter (early ++ first ∷ []) later) ≡ 0
         → InOrder (early ++ first ∷ []) later
 
 -- of the line's own search
 abbrev pub DemandThree : Type 0
-DemandThree = (book : List ℕ) (calls : List Given) → Demand3 nextLane book calls
+DemandThree = (book : List ℕ) (calls : List CallBytes) → Demand3 nextLane book calls

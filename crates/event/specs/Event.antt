@@ -33,7 +33,8 @@ abbrev pub isListed : ℕ → Bool
 isListed kind = leb 0x01 kind && leb kind 0x0C
 
 abbrev pub fieldLengths : ℕ → List ℕ
-fieldLengths kind = getD bodies (kind - 1) []
+fieldLengths zero = []
+fieldLengths (suc k) = getD bodies k []
 
 abbrev pub bodyLength : ℕ → ℕ
 bodyLength kind = sumOf (λ (n : ℕ). n) (fieldLengths kind)
@@ -88,7 +89,7 @@ fieldsOf (Event.View displacement extent used blocks) = displacement ∷ extent 
 fieldsOf (Event.Seek whence offset) = whence ∷ unsigned offset ∷ []
 fieldsOf Event.Unlisted = []
 
--- the eight blocks whose numbers stand in the list from index i on
+-- the eight blocks of kind 0B: its fields 3 to 18
 abbrev pub blocksAt : (ℕ → ℕ) → Blocks
 blocksAt v =
     record {
@@ -120,7 +121,8 @@ events v =
     ∷ []
 
 abbrev pub eventOf : ℕ → List ℕ → Event
-eventOf kind fields = getD (events (λ (k : ℕ). getD fields k 0)) (kind - 1) Event.Unlisted
+eventOf zero fields = Event.Unlisted
+eventOf (suc kind) fields = getD (events (λ (k : ℕ). getD fields k 0)) kind Event.Unlisted
 
 -- ---- reading
 -- what a kind and the bytes after it say: an event, one of an unlisted kind included, or a listed kind whose body is cut short

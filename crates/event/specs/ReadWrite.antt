@@ -4,7 +4,7 @@ use mathlib.Core.Bool.{Bool, true, false, cond}
 use mathlib.Core.List.{List, [], _∷_, _++_}
 use lib.ListN.{drop, getD, length}
 use lib.Dec.{leb}
-use Rattle.event.specs.Event.{Call, bodyLength, callOf, cutShort, eventBytes, given, isListed, kindOf}
+use Rattle.event.specs.Event.{Call, bodyLength, callOf, cutShort, eventBytes, fieldsOf, given, isListed, kindOf}
 use Rattle.event.specs.declared.Cursor.{Cursor}
 use Rattle.event.specs.declared.Event.{Event}
 use Rattle.event.specs.declared.Reading.{Reading}
@@ -23,7 +23,7 @@ readAt sheet at =
     (readingOf (at + 1 + bodyLength (getD sheet at 0)) (callOf (getD sheet at 0) (drop (at + 1) sheet)))
 
 -- ---- writing
--- the event is of a listed kind, and the buffer is long enough for it
+-- the buffer is long enough for the event
 abbrev pub hasRoom : List ℕ → Event → Bool
 hasRoom buffer e = leb (length (eventBytes e)) (length buffer)
 
@@ -41,7 +41,7 @@ readingNumber Reading.End = 0
 readingNumber (Reading.Refused k) = k
 
 abbrev pub readingValues : Reading → List ℕ
-readingValues (Reading.Event e next) = next .at ∷ []
+readingValues (Reading.Event e next) = fieldsOf e ++ (next .at ∷ [])
 readingValues Reading.End = []
 readingValues (Reading.Refused k) = []
 

@@ -15,17 +15,18 @@ use Rattle.line.specs.declared.Line.{Line}
 abbrev pub mostLanes : ℕ
 mostLanes = 64
 
+-- "The capacity is 8 to 65,536 bytes"
+abbrev pub leastCapacity : ℕ
+leastCapacity = 8
+
+abbrev pub mostCapacity : ℕ
+mostCapacity = 65536
+
 -- "The pointer is a place, 0 to 65,536"
 abbrev pub mostPointer : ℕ
 mostPointer = 65536
 
 -- ---- purposes
--- "Purposes: 0 shared write, 1 shared read, 2 whole book"
-abbrev pub purposeCode : Purpose → ℕ
-purposeCode Purpose.SharedWrite = 0
-purposeCode Purpose.SharedRead = 1
-purposeCode Purpose.WholeBook = 2
-
 abbrev pub isSharedWrite : Purpose → Bool
 isSharedWrite Purpose.SharedWrite = true
 isSharedWrite Purpose.SharedRead = false
@@ -87,7 +88,7 @@ isIdleOrGathered x = byPhase true false false false false false true x
 abbrev pub flagFor : Phase → ℕ
 flagFor x = byPhase 0 1 1 1 0 0 0 x
 
--- the purpose of a waiting, woken or holding lane (that of the others is not read)
+-- the purpose of a waiting, woken or holding lane; where another lane's is read, refusal 13 applies and is lower than what it decides
 abbrev pub purposeIn : Phase → Purpose
 purposeIn Phase.Idle = Purpose.SharedWrite
 purposeIn (Phase.Waiting p) = p
@@ -97,7 +98,7 @@ purposeIn (Phase.BusyWriting left next) = Purpose.SharedWrite
 purposeIn (Phase.BusyReading left next) = Purpose.SharedRead
 purposeIn (Phase.Gathered n) = Purpose.SharedWrite
 
--- the place that a phase carries: the pointer value of a woken or holding lane, the next place of a busy one
+-- the place that a phase carries: the pointer value of a woken or holding lane, the next place of a busy one; 0 for the others
 abbrev pub placeIn : Phase → Place
 placeIn Phase.Idle = place 0
 placeIn (Phase.Waiting p) = place 0
@@ -107,7 +108,7 @@ placeIn (Phase.BusyWriting left next) = next
 placeIn (Phase.BusyReading left next) = next
 placeIn (Phase.Gathered n) = place 0
 
--- the records that a busy lane has left
+-- the records that a busy lane has left; 0 for the others
 abbrev pub leftIn : Phase → ℕ
 leftIn Phase.Idle = 0
 leftIn (Phase.Waiting p) = 0

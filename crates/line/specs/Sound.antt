@@ -11,7 +11,7 @@ use Rattle.view.specs.declared.View.{View}
 use Rattle.line.specs.declared.Phase.{Phase}
 use Rattle.line.specs.declared.Lane.{Lane}
 use Rattle.line.specs.declared.Line.{Line}
-use Rattle.line.specs.Line.{byPhase, countIn, flagFor, hasTurn, isBusy, isGathered, isIdle, isIdleOrGathered, isWriting, leftIn, mostLanes, mostPointer, on, placeIn}
+use Rattle.line.specs.Line.{byPhase, countIn, flagFor, hasTurn, isBusy, isGathered, isIdle, isIdleOrGathered, isWriting, leastCapacity, leftIn, mostCapacity, mostLanes, mostPointer, on, placeIn}
 
 -- "An unopened line has N, capacity, size and pointer 0, and the plain view"
 abbrev pub unopenedNumbers : Line → Bool
@@ -22,14 +22,15 @@ abbrev pub openNumbers : Line → ℕ → Bool
 openNumbers l buffer =
     every
     (leb (l .lanes) mostLanes
-    ∷ leb 8 (l .capacity)
-    ∷ leb (l .capacity) 65536
+    ∷ leb leastCapacity (l .capacity)
+    ∷ leb (l .capacity) mostCapacity
     ∷ leb (l .size) (l .capacity)
     ∷ leb (l .pointer .0) mostPointer
     ∷ viewOk (l .capacity) (l .view)
     ∷ leb (l .capacity) buffer
     ∷ [])
 
+-- the numbers of a line that is unopened, and of one that is open
 abbrev pub numbersOk : Line → ℕ → Bool
 numbersOk l buffer = cond (eqb (l .lanes) 0) (unopenedNumbers l) (openNumbers l buffer)
 
@@ -37,10 +38,11 @@ numbersOk l buffer = cond (eqb (l .lanes) 0) (unopenedNumbers l) (openNumbers l 
 abbrev pub flagsOk : Line → Bool
 flagsOk l = sameNumbers (l .flag) (map (on flagFor) (l .lane))
 
--- "If a flag is 1, exactly one lane is woken or holding, and its value is the pointer"
+-- the value of a woken or holding lane is the pointer
 abbrev pub valueOk : Place → Phase → Bool
 valueOk pointer x = implies (hasTurn x) (eqb (placeIn x .0) (pointer .0))
 
+-- "If a flag is 1, exactly one lane is woken or holding, and its value is the pointer"
 abbrev pub turnOk : Line → Bool
 turnOk l = implies (any (eqb 1) (l .flag)) (eqb (count (on hasTurn) (l .lane)) 1 && all (on (valueOk (l .pointer))) (l .lane))
 
@@ -58,10 +60,11 @@ gatheredOk l =
     ∷ fits (l .view) (l .capacity) (l .pointer) (gatheredTotal (l .lane))
     ∷ []))
 
--- "Busy lanes have a record left and regions that end at or below the pointer ..; a writer's records fit"
+-- where a busy lane's region ends: the region is what is left of it
 abbrev pub regionEnd : Phase → ℕ
 regionEnd x = placeIn x .0 + leftIn x
 
+-- "Busy lanes have a record left and regions that end at or below the pointer ..; a writer's records fit"
 abbrev pub regionOk : Line → Phase → Bool
 regionOk l x =
     implies (isBusy x)
@@ -81,5 +84,6 @@ busyOk l = all (on (regionOk l)) (l .lane) && pairwise apartLanes (l .lane)
 abbrev pub pastOk : Line → Bool
 pastOk l = all (on isIdle) (drop (l .lanes) (l .lane)) && all (eqb 0) (drop (l .lanes) (l .flag))
 
+-- a sound line, with a lent buffer of this length
 unfoldable pub sound : Line → ℕ → Bool
 sound l buffer = every (numbersOk l buffer ∷ flagsOk l ∷ turnOk l ∷ gatheredOk l ∷ busyOk l ∷ pastOk l ∷ [])

@@ -14,7 +14,7 @@ pub enum Purpose {
     WholeBook,
 }
 
-// A lane's phase; a busy lane has a region: the records left and the next place.
+// A lane's phase; a busy lane has a region: the records left and then the next place, in which order a lane takes 8 bytes.
 pub enum Phase {
     Idle,
     Waiting(Purpose),
@@ -30,7 +30,7 @@ pub struct Lane {
     pub phase: Phase,
 }
 
-// The line: N in `lanes`, and an entry of `lane` and of `flag` for each lane that there could be.
+// The line: N in `lanes`, capacity and size in bytes, and an entry of `lane` and of `flag` for each lane that there could be.
 pub struct Line {
     pub lanes: u8,
     pub capacity: u32,

@@ -2,13 +2,14 @@
 use Prim.Native.Nat.{ℕ, zero, suc, _+_}
 use mathlib.Core.Bool.{Bool, true, false, cond, not, _&&_}
 use mathlib.Core.List.{List, [], _∷_}
-use lib.ListN.{drop, length}
+use lib.ListN.{length}
 use lib.Dec.{leb}
 use Rattle.line.specs.Sound.{sound}
-use Rattle.event.specs.Event.{bodyLength, callOf}
+use Rattle.event.specs.ReadWrite.{readAt}
+use Rattle.event.specs.declared.Reading.{Reading}
 use Rattle.steps.specs.Answer.{Said, saidBy}
 use Rattle.steps.specs.State.{Result, State}
-use Rattle.steps.specs.Step.{step}
+use Rattle.steps.specs.Step.{callEvent}
 use Rattle.steps.specs.declared.Answer.{Answer}
 
 -- the answers of a run, and the line and the book that it leaves
@@ -26,15 +27,20 @@ answered a r = record { answers = a ∷ r .answers; after = r .after }
 abbrev pub endsRun : Answer → Bool
 endsRun a = not (saidBy a .accepted) && leb (saidBy a .number) 3
 
--- the events of the bytes that are left; each is at least one byte long, so `most` events at most are left
-unfoldable pub runOn : ℕ → State → List ℕ → Ran
-runOn zero x sheet = done x
-runOn (suc most) x [] = done x
-runOn (suc most) x (kind ∷ bytes) =
-    let r = step x (callOf kind bytes) in
-    let rest = runOn most (r .after) (drop (bodyLength kind) bytes) in
-    answered (r .answer) (cond (endsRun (r .answer)) (done (r .after)) rest)
+-- what is read at the cursor, and then the rest of the run, which goes on with a state at the next cursor
+abbrev pub onReading : State → Reading → (State → ℕ → Ran) → Ran
+onReading x (Reading.Event e next) rest =
+    let r = callEvent x e in
+    let later = rest (r .after) (next .at) in
+    answered (r .answer) (cond (endsRun (r .answer)) (done (r .after)) later)
+onReading x Reading.End rest = done x
+onReading x (Reading.Refused k) rest = answered (Answer.Refused k) (done x)
+
+-- the events from a cursor on; each is at least one byte long, so `most` events at most are left
+unfoldable pub runOn : ℕ → State → List ℕ → ℕ → Ran
+runOn zero x sheet at = done x
+runOn (suc most) x sheet at = onReading x (readAt sheet at) (λ (y : State) (next : ℕ). runOn most y sheet next)
 
 -- "A run looks for 1 before its first event, on an empty sheet too"
 unfoldable pub run : State → List ℕ → Ran
-run x sheet = cond (sound (x .line) (length (x .book))) (runOn (length sheet) x sheet) (answered (Answer.Refused 1) (done x))
+run x sheet = cond (sound (x .line) (length (x .book))) (runOn (length sheet) x sheet 0) (answered (Answer.Refused 1) (done x))

@@ -41,12 +41,13 @@ abbrev pub openStep : State → ℕ → ℕ → Result
 openStep x lanes capacity = leaves (Answer.Open lanes capacity) (opened lanes capacity) (replicate capacity 0 ++ drop capacity (x .book))
 
 -- ---- 02 want: "Raises the flag and reads the others. All others 0: holding, with the pointer. Else waiting"
+-- "Purposes: 0 shared write, 1 shared read, 2 whole book"; above 2 refusal 9 applies
 abbrev pub purposeOf : ℕ → Purpose
 purposeOf zero = Purpose.SharedWrite
 purposeOf (suc zero) = Purpose.SharedRead
 purposeOf (suc (suc k)) = Purpose.WholeBook
 
--- all flags but lane i's are 0
+-- all flags but lane i's are 0; those past N are 0 on a sound line
 abbrev pub othersDown : Line → ℕ → Bool
 othersDown l i = all (eqb 0) (set (l .flag) i 0)
 
@@ -79,7 +80,7 @@ abbrev pub wake : Line → Wakes → Line
 wake l (Wakes.Lane w) = withPhase l w (woken (l .pointer) (phaseAt l w))
 wake l Wakes.None = l
 
--- the releaser with its flag down, in its next phase, and the pointer
+-- the releaser with its flag down and in its next phase, and the pointer set to v
 abbrev pub lowered : Line → ℕ → Phase → Place → Line
 lowered l i p v = withPointer (withPhase (withFlag l i 0) i p) v
 
@@ -199,6 +200,7 @@ abbrev pub viewStep : State → View → Result
 viewStep x v = leaves Answer.View (withPointer (withView (x .line) v) (place 0)) (x .book)
 
 -- ---- 0C seek: "Whence 0: the offset; 1: pointer + offset; 2: size / 8 rounded down, plus offset"
+-- above 2 refusal 9 applies
 abbrev pub seekBase : Line → ℕ → ℕ
 seekBase l zero = 0
 seekBase l (suc zero) = l .pointer .0

@@ -1,4 +1,4 @@
--- Document 01, "Reasons for refusing": each reason by itself, in the paper's order.
+-- Document 01, "Reasons for refusing": each reason by itself, in the paper's order (14 before 13, which excepts it).
 use Prim.Native.Nat.{ℕ, zero, suc, _+_}
 use mathlib.Core.Bool.{Bool, true, false, cond, not, _&&_, _||_}
 use mathlib.Core.List.{List, [], _∷_}
@@ -10,7 +10,7 @@ use Rattle.view.specs.View.{fits, viewOk}
 use Rattle.view.specs.declared.Place.{Place}
 use Rattle.line.specs.declared.Phase.{Phase}
 use Rattle.line.specs.declared.Line.{Line}
-use Rattle.line.specs.Line.{holdsShared, holdsWhole, isGathered, isIdle, isIdleOrGathered, isReading, isSharedRead, isSharedWrite, isWaiting, isWoken, isWriting, mostLanes, mostPointer, on, phaseAt, placeIn, purposeIn}
+use Rattle.line.specs.Line.{holdsShared, holdsWhole, isGathered, isIdle, isIdleOrGathered, isReading, isSharedRead, isSharedWrite, isWaiting, isWoken, isWriting, leastCapacity, mostCapacity, mostLanes, mostPointer, on, phaseAt, placeIn, purposeIn}
 use Rattle.line.specs.Sound.{gatheredTotal, sound}
 use Rattle.event.specs.Event.{Call, cutShort, fieldsOf, given, isListed, kindOf}
 use Rattle.event.specs.declared.Event.{Event}
@@ -67,15 +67,15 @@ lanesOutside x c = onEvent (λ (e : Event). is 0x01 e && not (leb 1 (field 0 e) 
 -- ---- 7. "The capacity of 01 is not 8 to 65,536, or exceeds the buffer"
 abbrev pub capacityOutside : State → Call → Bool
 capacityOutside x c =
-    onEvent (λ (e : Event). is 0x01 e && not (leb 8 (field 1 e) && leb (field 1 e) 65536 && leb (field 1 e) (length (x .book)))) c
+    onEvent (λ (e : Event). is 0x01 e && not (leb leastCapacity (field 1 e) && leb (field 1 e) mostCapacity && leb (field 1 e) (length (x .book)))) c
 
 -- ---- 8. "The lane is not below N"
 abbrev pub laneOutside : State → Call → Bool
 laneOutside x c = onEvent (λ (e : Event). namesLane e && leb (x .line .lanes) (laneOf e)) c
 
 -- ---- 9. "The purpose or the whence is above 2"
-abbrev pub codeOutside : State → Call → Bool
-codeOutside x c = onEvent (λ (e : Event). is 0x02 e && ltb 2 (field 1 e) || is 0x0C e && ltb 2 (field 0 e)) c
+abbrev pub purposeOrWhenceOutside : State → Call → Bool
+purposeOrWhenceOutside x c = onEvent (λ (e : Event). (is 0x02 e && ltb 2 (field 1 e)) || (is 0x0C e && ltb 2 (field 0 e))) c
 
 -- ---- 10. "The view breaks a rule above"
 abbrev pub breaksRule : State → Event → Bool
@@ -96,16 +96,17 @@ breaksRule x Event.Unlisted = false
 abbrev pub viewBroken : State → Call → Bool
 viewBroken x c = onEvent (breaksRule x) c
 
--- ---- 11. "For 0B or 0C some lane is not idle; for 0A some lane is neither idle nor gathered"
+-- ---- 11, which looks at all entries, as 12 does: those past N are idle
+-- "For 0B or 0C some lane is not idle; for 0A some lane is neither idle nor gathered"
 abbrev pub lanesNotReady : State → Call → Bool
 lanesNotReady x c =
     onEvent
-    (λ (e : Event). (is 0x0B e || is 0x0C e) && not (all (on isIdle) (x .line .lane))
-    || is 0x0A e && not (all (on isIdleOrGathered) (x .line .lane))) c
+    (λ (e : Event). ((is 0x0B e || is 0x0C e) && not (all (on isIdle) (x .line .lane)))
+    || (is 0x0A e && not (all (on isIdleOrGathered) (x .line .lane)))) c
 
 -- ---- 12. "02 comes while a lane is gathered"
-abbrev pub gatheredStands : State → Call → Bool
-gatheredStands x c = onEvent (λ (e : Event). is 0x02 e && any (on isGathered) (x .line .lane)) c
+abbrev pub someGathered : State → Call → Bool
+someGathered x c = onEvent (λ (e : Event). is 0x02 e && any (on isGathered) (x .line .lane)) c
 
 -- ---- 14. "03 comes to a waiting lane, with no wake yet"
 abbrev pub noWakeYet : State → Call → Bool
@@ -187,10 +188,10 @@ reasons x c =
     ∷ lanesOutside x c
     ∷ capacityOutside x c
     ∷ laneOutside x c
-    ∷ codeOutside x c
+    ∷ purposeOrWhenceOutside x c
     ∷ viewBroken x c
     ∷ lanesNotReady x c
-    ∷ gatheredStands x c
+    ∷ someGathered x c
     ∷ phaseForbids x c
     ∷ noWakeYet x c
     ∷ pointerOutside x c

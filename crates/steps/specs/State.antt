@@ -10,6 +10,7 @@ use Rattle.line.specs.declared.Lane.{Lane}
 use Rattle.line.specs.Line.{lane}
 use Rattle.steps.specs.declared.Answer.{Answer}
 
+-- the line and the lent book (the file of source document 001), byte by byte
 pub record State : Type 0 where
   pub line : Line
   pub book : List ℕ

@@ -1,4 +1,4 @@
-// The answers to calls. What each call does is defined in specs/; the functions are in the crate above.
+// The answers to calls. What each call does is defined in specs/; the functions are in the crates above.
 use line::Line;
 use view::Place;
 use view::Position;

@@ -69,7 +69,7 @@ unfoldable pub blockRecord : List Block → ℕ → ℕ
 blockRecord [] q = 0
 blockRecord (b ∷ bs) q = cond (ltb q (b .length)) (b .start + q) (blockRecord bs (q - b .length))
 
--- "place k lies in tile k / m, at the (k mod m)-th block record"
+-- "place k lies in tile k / m, at the (k mod m)-th block record"; a view that shows no record breaks a rule (there k / 0 is 0, k % 0 is k)
 abbrev pub tileOf : View → Place → ℕ
 tileOf v k = (k .0) / shown v
 

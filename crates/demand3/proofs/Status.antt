@@ -33,20 +33,20 @@ use Rattle.steps.proofs.Keeps.{GoodState, free-leaving, fresh-idle, take-reads-
 use Rattle.steps.proofs.Ordered.{busy-by, entered-all, started-by}
 use Rattle.steps.proofs.Release.{Chosen, Leaving, chosen, woken-now}
 use Rattle.steps.proofs.Stored.{other-phase, placed, same-phase}
-use Rattle.demand3.specs.Claim.{Entry, Given, Standing, afterAll, callIn, entries, hasTurn, holding, isRelease, isWaiting, off, purposeFor, stand, standNext, tellsToWait, waiting, wakes, woken, wokenBy}
+use Rattle.demand3.specs.Claim.{Entry, CallBytes, Status, afterAll, callIn, entries, hasTurn, holding, isRelease, isWaiting, off, purposeFor, status, statusNext, tellsToWait, waiting, wakes, woken, wokenBy}
 use Rattle.demand3.proofs.Seen.{by-entry, entryOf}
 use Rattle.demand3.proofs.Trace.{entryOn, then, then-good}
 
-abbrev pub standOf : Phase → Standing
-standOf Phase.Idle = off
-standOf (Phase.Waiting p) = waiting p
-standOf (Phase.Woken p v) = woken p
-standOf (Phase.Holding p v) = holding p
-standOf (Phase.BusyWriting n k) = off
-standOf (Phase.BusyReading n k) = off
-standOf (Phase.Gathered n) = off
+abbrev pub statusOf : Phase → Status
+statusOf Phase.Idle = off
+statusOf (Phase.Waiting p) = waiting p
+statusOf (Phase.Woken p v) = woken p
+statusOf (Phase.Holding p v) = holding p
+statusOf (Phase.BusyWriting n k) = off
+statusOf (Phase.BusyReading n k) = off
+statusOf (Phase.Gathered n) = off
 
-pub waits-is : (y : Phase) → isWaiting (standOf y) ≡ phases.isWaiting y
+pub waits-is : (y : Phase) → isWaiting (statusOf y) ≡ phases.isWaiting y
 waits-is Phase.Idle = refl
 waits-is (Phase.Waiting p) = refl
 waits-is (Phase.Woken p v) = refl
@@ -55,7 +55,7 @@ waits-is (Phase.BusyWriting n k) = refl
 waits-is (Phase.BusyReading n k) = refl
 waits-is (Phase.Gathered n) = refl
 
-pub turn-is : (y : Phase) → hasTurn (standOf y) ≡ phases.hasTurn y
+pub turn-is : (y : Phase) → hasTurn (statusOf y) ≡ phases.hasTurn y
 turn-is Phase.Idle = refl
 turn-is (Phase.Waiting p) = refl
 turn-is (Phase.Woken p v) = refl
@@ -64,7 +64,7 @@ turn-is (Phase.BusyWriting n k) = refl
 turn-is (Phase.BusyReading n k) = refl
 turn-is (Phase.Gathered n) = refl
 
-ready-off : (y : Phase) → isIdleOrGathered y ≡ true → standOf y ≡ off
+ready-off : (y : Phase) → isIdleOrGathered y ≡ true → statusOf y ≡ off
 ready-off Phase.Idle e = refl
 ready-off (Phase.Waiting p) e = clash (sym e)
 ready-off (Phase.Woken p v) e = clash (sym e)
@@ -74,7 +74,7 @@ ready-off (Phase.BusyReading n k) e = clash (sym e)
 ready-off (Phase.Gathered n) e = refl
 
 -- a lane whose flag is not up stands off
-down-off : (y : Phase) → isUp y ≡ false → standOf y ≡ off
+down-off : (y : Phase) → isUp y ≡ false → statusOf y ≡ off
 down-off Phase.Idle e = refl
 down-off (Phase.Waiting p) e = clash e
 down-off (Phase.Woken p v) e = clash e
@@ -83,19 +83,19 @@ down-off (Phase.BusyWriting n k) e = refl
 down-off (Phase.BusyReading n k) e = refl
 down-off (Phase.Gathered n) e = refl
 
-busy-off : (n : ℕ) (y : Phase) → standOf y ≡ off → standOf (cond (eqb n 0) Phase.Idle y) ≡ off
-busy-off n y e = busy-by (λ (z : Phase). standOf z ≡ off) n y (λ z. refl) (λ z. e)
+busy-off : (n : ℕ) (y : Phase) → statusOf y ≡ off → statusOf (cond (eqb n 0) Phase.Idle y) ≡ off
+busy-off n y e = busy-by (λ (z : Phase). statusOf z ≡ off) n y (λ z. refl) (λ z. e)
 
 -- an entry takes a lane's standing to that of its phase after the step
-pub record Stood (s : Standing) (i : ℕ) (e : Entry) (r : Result) : Type 0 where
-  pub is : standNext i s e ≡ standOf (phaseAt (r .after .line) i)
+pub record Stood (s : Status) (i : ℕ) (e : Entry) (r : Result) : Type 0 where
+  pub is : statusNext i s e ≡ statusOf (phaseAt (r .after .line) i)
 
 module _ (x : State) (G : GoodState x) (i : ℕ) where
-  abbrev now : Standing
-  now = standOf (phaseAt (x .line) i)
+  abbrev now : Status
+  now = statusOf (phaseAt (x .line) i)
 
   -- lane j gets phase y
-  stored-stand : (j : ℕ) (y : Phase) → j < x .line .lanes → standOf ((getD (placed (x .line) j y) i idleLane) .phase) ≡ cond (eqb j i) (standOf y) now
+  stored-stand : (j : ℕ) (y : Phase) → j < x .line .lanes → statusOf ((getD (placed (x .line) j y) i idleLane) .phase) ≡ cond (eqb j i) (statusOf y) now
   stored-stand j y h =
       elim (ℕ-discrete j i) [
         | yes z ↦ rw (eq-eqb j i z, ← z, same-phase (x .line) (G .facts .base) j y h)
@@ -103,7 +103,7 @@ module _ (x : State) (G : GoodState x) (i : ℕ) where
       ]
 
   -- .. that stands as the one before
-  same-stand : (j : ℕ) (o y : Phase) → j < x .line .lanes → phaseAt (x .line) j ≡ o → standOf y ≡ standOf o → now ≡ standOf ((getD (placed (x .line) j y) i idleLane) .phase)
+  same-stand : (j : ℕ) (o y : Phase) → j < x .line .lanes → phaseAt (x .line) j ≡ o → statusOf y ≡ statusOf o → now ≡ statusOf ((getD (placed (x .line) j y) i idleLane) .phase)
   same-stand j o y h e f =
       sym (stored-stand j y h ∙ elim (ℕ-discrete j i) [
         | yes z ↦ rw (eq-eqb j i z, f, ← e, z)
@@ -111,18 +111,18 @@ module _ (x : State) (G : GoodState x) (i : ℕ) where
       ])
 
   -- ---- a release by lane k
-  leaves-stand : (e : Entry) (a : Result) (k : ℕ) (o y : Phase) (q : Place) → standNext i now e ≡ cond (eqb k i) off (cond (wakes i e) (woken (purposeFor now)) now)
+  leaves-stand : (e : Entry) (a : Result) (k : ℕ) (o y : Phase) (q : Place) → statusNext i now e ≡ cond (wakes i e) (woken (purposeFor now)) (cond (eqb k i) off now)
       → wokenBy e ≡ wakesValues (nextOf nextLane (lowered (x .line) k y q) k)
-      → a .after .line ≡ released nextLane (lowered (x .line) k y q) k → standOf y ≡ off → Leaving (x .line) k o y q → Stood now i e a
+      → a .after .line ≡ released nextLane (lowered (x .line) k y q) k → statusOf y ≡ off → Leaving (x .line) k o y q → Stood now i e a
   leaves-stand e a k o y q sn wv al yo L = record { is = go (nextOf nextLane (lowered (x .line) k y q) k) refl }
     where
-      go : (m : Wakes) → nextOf nextLane (lowered (x .line) k y q) k ≡ m → standNext i now e ≡ standOf (phaseAt (a .after .line) i)
+      go : (m : Wakes) → nextOf nextLane (lowered (x .line) k y q) k ≡ m → statusNext i now e ≡ statusOf (phaseAt (a .after .line) i)
       go Wakes.None t =
           let w : wakes i e ≡ false = ap (any (eqb i)) (wv ∙ ap wakesValues t) in
           sn ∙ rw (w, al ∙ ap (wake (lowered (x .line) k y q)) t, stored-stand k y (L .inside), yo)
       go (Wakes.Lane w) t =
           sn ∙ elim (ℕ-discrete i w) [
-            | yes z ↦ rw (names ∙ eq-eqb i w z, ne-eqb k i (λ u. C .other (sym (u ∙ z))), lines) (rw z (rw (C .was, nowWoken)))
+            | yes z ↦ rw (names ∙ eq-eqb i w z, lines) (rw z (rw (C .was, nowWoken)))
             | no z ↦ rw (names ∙ ne-eqb i w z, lines, other-phase (lowered (x .line) k y q) w i (wokenPhase q (phaseAt (lowered (x .line) k y q) w)) z, stored-stand k y (L .inside), yo)
           ]
         where
@@ -140,15 +140,15 @@ module _ (x : State) (G : GoodState x) (i : ℕ) where
 
   -- ---- each step
   -- lane j's own call
-  own-stand : (j : ℕ) (y : Phase) (s : Standing) → j < x .line .lanes → standOf y ≡ s → cond (eqb j i) s now ≡ standOf ((getD (placed (x .line) j y) i idleLane) .phase)
-  own-stand j y s h e = sym (stored-stand j y h ∙ ap (λ (t : Standing). cond (eqb j i) t now) e)
+  own-stand : (j : ℕ) (y : Phase) (s : Status) → j < x .line .lanes → statusOf y ≡ s → cond (eqb j i) s now ≡ statusOf ((getD (placed (x .line) j y) i idleLane) .phase)
+  own-stand j y s h e = sym (stored-stand j y h ∙ ap (λ (t : Status). cond (eqb j i) t now) e)
 
   -- the lane of a want that is told to wait
-  told-waits : (j : ℕ) (a b : Standing) → cond (eqb j i) (cond (eqb j i && true) a b) now ≡ cond (eqb j i) a now
+  told-waits : (j : ℕ) (a b : Status) → cond (eqb j i) (cond (eqb j i && true) a b) now ≡ cond (eqb j i) a now
   told-waits j a b = by-test (eqb j i) (λ t. rw t) (λ t. rw t)
 
   receive-stand : (j : ℕ) (p : Purpose) (v : Place) → j < x .line .lanes → phaseAt (x .line) j ≡ Phase.Woken p v
-      → cond (eqb j i) (holding (purposeFor now)) now ≡ standOf ((getD (placed (x .line) j (Phase.Holding p v)) i idleLane) .phase)
+      → cond (eqb j i) (holding (purposeFor now)) now ≡ statusOf ((getD (placed (x .line) j (Phase.Holding p v)) i idleLane) .phase)
   receive-stand j p v h e =
       elim (ℕ-discrete j i) [
         | yes z ↦ rw (eq-eqb j i z, ← z, e, same-phase (x .line) (G .facts .base) j (Phase.Holding p v) h)
@@ -158,7 +158,7 @@ module _ (x : State) (G : GoodState x) (i : ℕ) where
   pub stand-event : (e : Event) (d : Entry) (r : Result) → Steps nextLane x (given e) r → Stood now i (entryOf e d (saidBy (r .answer))) r
   stand-event e d r (refuses n) = record { is = refl }
   stand-event e d r (opens lanes capacity z a b c f g) =
-      record { is = ap standOf (G .facts .base .past i (omega arith)) ∙ sym (ap standOf (fresh-idle lanes capacity i)) }
+      record { is = ap statusOf (G .facts .base .past i (omega arith)) ∙ sym (ap statusOf (fresh-idle lanes capacity i)) }
   stand-event e d r (wants j p h q g) =
       at-test (λ (t : Result). Stood now i (entryOf (Event.Want j p) d (saidBy (t .answer))) t) (othersDown (x .line) j) _ _
       (λ t. record { is = rw (and-false (eqb j i)) (own-stand j (Phase.Holding (purposeOf p) (x .line .pointer)) (holding (purposeOf p)) h refl) })
@@ -187,11 +187,11 @@ module _ (x : State) (G : GoodState x) (i : ℕ) where
   stand-event e d r (views displacement extent used blocks z o g) = record { is = refl }
   stand-event e d r (seeks whence offset n z t m g) = record { is = refl }
 
-  pub stand-call : (g : Given) → standNext i now (entryOn x g) ≡ standOf (phaseAt (then x g .line) i)
+  pub stand-call : (g : CallBytes) → statusNext i now (entryOn x g) ≡ statusOf (phaseAt (then x g .line) i)
   stand-call g = by-entry x g (Stood now i) (λ d n. record { is = refl }) stand-event .is
 
 -- ---- over a list of calls
-pub stands : (gs : List Given) (x : State) → GoodState x → (i : ℕ) → stand i (standOf (phaseAt (x .line) i)) (entries nextLane x gs) ≡ standOf (phaseAt (afterAll nextLane x gs .line) i)
-unfolding entries stand afterBy
+pub stands : (gs : List CallBytes) (x : State) → GoodState x → (i : ℕ) → status i (statusOf (phaseAt (x .line) i)) (entries nextLane x gs) ≡ statusOf (phaseAt (afterAll nextLane x gs .line) i)
+unfolding entries status afterBy
 stands [] x G i = refl
-stands (g ∷ gs) x G i = ap (λ (s : Standing). stand i s (entries nextLane (then x g) gs)) (stand-call x G i g) ∙ stands gs (then x g) (then-good x g G) i
+stands (g ∷ gs) x G i = ap (λ (s : Status). status i s (entries nextLane (then x g) gs)) (stand-call x G i g) ∙ stands gs (then x g) (then-good x g G) i
