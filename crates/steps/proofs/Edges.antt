@@ -102,23 +102,13 @@ set-down [] i = refl
 set-down (b ∷ bs) zero = refl
 set-down (b ∷ bs) (suc i) = set-down bs i
 
--- ---- 02: holds only where every other flag is 0
-pub holds-alone : (search : Search) (x : State) (i purpose : ℕ) (v : Place) → stepBy search x (given (Event.Want i purpose)) .answer ≡ Answer.Holds v
-    → (j : ℕ) → j ≢ i → getD (x .line .flag) j 0 ≡ 0
-holds-alone search x i purpose v e j n =
-    by-effect search x (Event.Want i purpose) (λ (r : Result). r .answer ≡ Answer.Holds v → getD (x .line .flag) j 0 ≡ 0) (ap (λ (a : Answer). saidBy a .accepted) e)
-    (λ q. by-test (othersDown (x .line) i)
-    (λ t. sym (getD-set-other (x .line .flag) i j 0 0 n) ∙ sym (eqb-true 0 (getD (set (x .line .flag) i 0) j 0) (all-getD (eqb 0) (set (x .line .flag) i 0) j 0 t refl)))
-    (λ f. let w = rw f at q in let z : _≡_ {A = ℕ} 0 1 = cc in absurd (omega arith)))
-    e
-
 -- a test that not all pass has an element that fails it
 all-fails : {A : Type 0} (p : A → Bool) (l : List A) (d : A) → all p l ≡ false → (j : ℕ) × (p (getD l j d) ≡ false)
 all-fails p [] d e = clash e
 all-fails p (y ∷ ys) d e =
     by-test (p y) (λ t. let r = all-fails p ys d (rw t at e) in (suc (r .0), r .1)) (λ f. (0, f))
 
--- and waits only where another flag is up: its own is not read
+-- ---- 02: waits only where another flag is up: its own is not read
 pub waits-beside : (search : Search) (x : State) (i purpose : ℕ) → stepBy search x (given (Event.Want i purpose)) .answer ≡ Answer.Waits
     → (j : ℕ) × (j ≢ i) × (getD (x .line .flag) j 0 ≢ 0)
 waits-beside search x i purpose e =
@@ -129,6 +119,16 @@ waits-beside search x i purpose e =
     let up = eqb-false 0 (getD (set (x .line .flag) i 0) (r .0) 0) (r .1) in
     let n : r .0 ≢ i = λ z. up (sym (ap (λ (j : ℕ). getD (set (x .line .flag) i 0) j 0) z ∙ set-down (x .line .flag) i)) in
     (r .0, n, λ z. up (sym (getD-set-other (x .line .flag) i (r .0) 0 0 n ∙ z)))))
+    e
+
+-- and it holds only where every other flag is 0
+pub holds-alone : (search : Search) (x : State) (i purpose : ℕ) (v : Place) → stepBy search x (given (Event.Want i purpose)) .answer ≡ Answer.Holds v
+    → (j : ℕ) → j ≢ i → getD (x .line .flag) j 0 ≡ 0
+holds-alone search x i purpose v e j n =
+    by-effect search x (Event.Want i purpose) (λ (r : Result). r .answer ≡ Answer.Holds v → getD (x .line .flag) j 0 ≡ 0) (ap (λ (a : Answer). saidBy a .accepted) e)
+    (λ q. by-test (othersDown (x .line) i)
+    (λ t. sym (getD-set-other (x .line .flag) i j 0 0 n) ∙ sym (eqb-true 0 (getD (set (x .line .flag) i 0) j 0) (all-getD (eqb 0) (set (x .line .flag) i 0) j 0 t refl)))
+    (λ f. let w = rw f at q in let z : _≡_ {A = ℕ} 0 1 = cc in absurd (omega arith)))
     e
 
 -- ---- 04 and 09: releases
