@@ -39,7 +39,7 @@ use Rattle.steps.proofs.Release.{raised-up}
 use Rattle.steps.proofs.Chains.{atLane, enter-chain, free-chain, look-chain, open-chain, put-chain, read-chain, receive-chain, take-chain, want-chain, write-chain}
 use Rattle.sheet.specs.Run.{run, runOn}
 use Rattle.sheet.specs.Print.{answerLines, answerWords, decimalIn, linebook, words}
-use Rattle.claims.specs.Edges.{Alone, Holder, OtherEdges, Release, StarredEdges, Waits, answerTo, isSound}
+use Rattle.claims.specs.Edges.{Alone, Entered, Holder, OtherEdges, Release, StarredEdges, Waits, answerTo, enter0, enter1, enter2, isSound}
 
 -- ---- phases and answers
 waiting-up : (y : Phase) → isWaiting y ≡ true → isUp y ≡ true
@@ -171,6 +171,31 @@ every-5 : (x : State) → Holder x 5 → Waits x 4 → ((j : ℕ) → Waits x j 
 every-5 x H fourth only =
     release x 5 (omega arith) H 4 (omega arith) fourth (λ a n. only a (up-waits x 5 (omega arith) H a (n .inside) (n .up)))
 
+-- ---- the ordered call, in each order of entry
+order-012 : Entered enter0 enter1 enter2
+unfolding blockRecord inOrder positionOf viewOk sound started stepBy callsBy afterBy
+order-012 = record { answers = refl; lanes = refl; pointer = refl; sound = refl }
+
+order-021 : Entered enter0 enter2 enter1
+unfolding blockRecord inOrder positionOf viewOk sound started stepBy callsBy afterBy
+order-021 = record { answers = refl; lanes = refl; pointer = refl; sound = refl }
+
+order-102 : Entered enter1 enter0 enter2
+unfolding blockRecord inOrder positionOf viewOk sound started stepBy callsBy afterBy
+order-102 = record { answers = refl; lanes = refl; pointer = refl; sound = refl }
+
+order-120 : Entered enter1 enter2 enter0
+unfolding blockRecord inOrder positionOf viewOk sound started stepBy callsBy afterBy
+order-120 = record { answers = refl; lanes = refl; pointer = refl; sound = refl }
+
+order-201 : Entered enter2 enter0 enter1
+unfolding blockRecord inOrder positionOf viewOk sound started stepBy callsBy afterBy
+order-201 = record { answers = refl; lanes = refl; pointer = refl; sound = refl }
+
+order-210 : Entered enter2 enter1 enter0
+unfolding blockRecord inOrder positionOf viewOk sound started stepBy callsBy afterBy
+order-210 = record { answers = refl; lanes = refl; pointer = refl; sound = refl }
+
 -- ---- the table
 pub starred-edges : StarredEdges
 unfolding blockRecord endOfBook inOrder positionOf viewOk sound firstRaised nextLane bigEndian numberOf fieldsIn started stepBy callsBy afterBy
@@ -206,12 +231,12 @@ starred-edges =
       pointer-end = refl;
       view-10 = refl;
       pointer-10 = refl;
-      order-012 = record { answers = refl; lanes = refl; pointer = refl; sound = refl };
-      order-021 = record { answers = refl; lanes = refl; pointer = refl; sound = refl };
-      order-102 = record { answers = refl; lanes = refl; pointer = refl; sound = refl };
-      order-120 = record { answers = refl; lanes = refl; pointer = refl; sound = refl };
-      order-201 = record { answers = refl; lanes = refl; pointer = refl; sound = refl };
-      order-210 = record { answers = refl; lanes = refl; pointer = refl; sound = refl };
+      order-012 = order-012;
+      order-021 = order-021;
+      order-102 = order-102;
+      order-120 = order-120;
+      order-201 = order-201;
+      order-210 = order-210;
       starts = refl;
       from-starts = refl;
     }

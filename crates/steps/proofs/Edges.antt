@@ -2,7 +2,7 @@
 use Prim.Native.Nat.{ℕ, zero, suc, _+_, _-_, _≤_, _<_}
 use mathlib.Core.Path.{_≡_, refl, sym, ap, _∙_}
 use mathlib.Core.Logic.{_≢_}
-use mathlib.Core.Bool.{true, false, cond, not}
+use mathlib.Core.Bool.{Bool, true, false, cond, not}
 use mathlib.Core.List.{List, [], _∷_}
 use native.Mathlib.Omega.{arith}
 use native.Mathlib.Nat.{add-zero}
@@ -10,9 +10,9 @@ use lib.ListN.{drop, getD, length, replicate, set, take, length-replicate, getD-
 use lib.Seq.{getD-append-add, getD-drop, getD-set-other, getD-set-same, sets}
 use lib.IntN.{negsuc}
 use lib.Dec.{eqb, leb}
-use borrow.Author.Tests.{eqb-true, le-leb, le-ltb, lt-leb, lt-ltb, ne-eqb}
+use borrow.Author.Tests.{eqb-false, eqb-true, le-leb, le-ltb, lt-leb, lt-ltb, ne-eqb}
 use Rattle.lists.specs.Lists.{all, any}
-use Rattle.lists.proofs.Tests.{by-test}
+use Rattle.lists.proofs.Tests.{by-test, clash}
 use Rattle.lists.proofs.Counts.{all-getD}
 use Rattle.view.specs.View.{place, positionOf, recordEnd}
 use Rattle.view.specs.declared.Place.{Place}
@@ -29,7 +29,7 @@ use Rattle.event.specs.Event.{given}
 use Rattle.event.specs.declared.Event.{Event}
 use Rattle.steps.specs.Answer.{saidBy}
 use Rattle.steps.specs.State.{Result, State, leaves, withPointer}
-use Rattle.steps.specs.Effects.{Search, allEntered, busyFor, effect, entered, lowered, nextOf, othersDown, reading, recordAt, released, started, startedAt, wake}
+use Rattle.steps.specs.Effects.{Search, allEntered, busyFor, contentAt, effect, entered, lowered, nextOf, othersDown, reading, recordAt, released, started, startedAt, wake}
 use Rattle.steps.specs.Step.{refuse, stepBy}
 use Rattle.steps.specs.declared.Answer.{Answer}
 use Rattle.steps.proofs.Lowest.{Decided, accepted, accepted-none, decided, none-accepted, refused}
@@ -96,7 +96,32 @@ open-keeps search x lanes capacity a j =
     by-effect search x (Event.Open lanes capacity) (λ (r : Result). getD (r .after .book) (capacity + j) 0 ≡ getD (x .book) (capacity + j) 0) a
     (rw (length-replicate {A = ℕ} capacity 0) at (getD-append-add (replicate capacity 0) (drop capacity (x .book)) j 0) ∙ getD-drop capacity (x .book) j 0)
 
--- ---- 02: holds only where every other flag is 0
+-- a flag that is dropped reads 0
+pub set-down : (f : List ℕ) (i : ℕ) → getD (set f i 0) i 0 ≡ 0
+set-down [] i = refl
+set-down (b ∷ bs) zero = refl
+set-down (b ∷ bs) (suc i) = set-down bs i
+
+-- a test that not all pass has an element that fails it
+all-fails : {A : Type 0} (p : A → Bool) (l : List A) (d : A) → all p l ≡ false → (j : ℕ) × (p (getD l j d) ≡ false)
+all-fails p [] d e = clash e
+all-fails p (y ∷ ys) d e =
+    by-test (p y) (λ t. let r = all-fails p ys d (rw t at e) in (suc (r .0), r .1)) (λ f. (0, f))
+
+-- ---- 02: waits only where another flag is up: its own is not read
+pub waits-beside : (search : Search) (x : State) (i purpose : ℕ) → stepBy search x (given (Event.Want i purpose)) .answer ≡ Answer.Waits
+    → (j : ℕ) × (j ≢ i) × (getD (x .line .flag) j 0 ≢ 0)
+waits-beside search x i purpose e =
+    by-effect search x (Event.Want i purpose) (λ (r : Result). r .answer ≡ Answer.Waits → (j : ℕ) × (j ≢ i) × (getD (x .line .flag) j 0 ≢ 0)) (ap (λ (a : Answer). saidBy a .accepted) e)
+    (λ q. by-test (othersDown (x .line) i)
+    (λ t. let w = rw t at q in let z : _≡_ {A = ℕ} 0 1 = cc in absurd (omega arith))
+    (λ f. let r = all-fails (eqb 0) (set (x .line .flag) i 0) 0 f in
+    let up = eqb-false 0 (getD (set (x .line .flag) i 0) (r .0) 0) (r .1) in
+    let n : r .0 ≢ i = λ z. up (sym (ap (λ (j : ℕ). getD (set (x .line .flag) i 0) j 0) z ∙ set-down (x .line .flag) i)) in
+    (r .0, n, λ z. up (sym (getD-set-other (x .line .flag) i (r .0) 0 0 n ∙ z)))))
+    e
+
+-- and it holds only where every other flag is 0
 pub holds-alone : (search : Search) (x : State) (i purpose : ℕ) (v : Place) → stepBy search x (given (Event.Want i purpose)) .answer ≡ Answer.Holds v
     → (j : ℕ) → j ≢ i → getD (x .line .flag) j 0 ≡ 0
 holds-alone search x i purpose v e j n =
@@ -139,11 +164,6 @@ pub free-alone : (x : State) (i : ℕ) → othersDown (x .line) i ≡ true → A
 free-alone x i h a = free-wakes nextLane x i a ∙ ap Answer.Freed (none-next (x .line .lanes) (set (x .line .flag) i 0) i h)
 
 -- the releaser's flag is down afterwards
-pub set-down : (f : List ℕ) (i : ℕ) → getD (set f i 0) i 0 ≡ 0
-set-down [] i = refl
-set-down (b ∷ bs) zero = refl
-set-down (b ∷ bs) (suc i) = set-down bs i
-
 wake-flags : (l : Line) (w : Wakes) → wake l w .flag ≡ l .flag
 wake-flags l (Wakes.Lane w) = refl
 wake-flags l Wakes.None = refl
@@ -209,6 +229,12 @@ module _ (search : Search) (x : State) (i : ℕ) (k : Place) (h : i < length (x 
   read-none n e z =
       by-effect search x (Event.Read i) (λ (r : Result). r .answer ≡ Answer.None) a
       (rw (e, lt-leb (recordEnd (x .line .view) k) (x .line .size) z))
+
+  pub read-record : (n : ℕ) → phaseAt (x .line) i ≡ Phase.BusyReading n k → recordEnd (x .line .view) k ≤ x .line .size
+      → stepBy search x (given (Event.Read i)) .answer ≡ Answer.Record (contentAt x k)
+  read-record n e z =
+      by-effect search x (Event.Read i) (λ (r : Result). r .answer ≡ Answer.Record (contentAt x k)) a
+      (rw (e, le-leb (recordEnd (x .line .view) k) (x .line .size) z))
 
 pub look-uses-nothing : (search : Search) (x : State) (i : ℕ) (k : Place) → leftBy search x (Event.Look i k) ≡ x
 look-uses-nothing search x i k = go (decided search x (given (Event.Look i k)))
