@@ -2,3 +2,4 @@
 pub mod ExampleSheet
 pub mod Seen
 pub mod Turn
+pub mod Edges

@@ -5,3 +5,4 @@ pub mod Stored
 pub mod Release
 pub mod Ordered
 pub mod Keeps
+pub mod Chains

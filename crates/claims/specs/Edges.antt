@@ -1,0 +1,189 @@
+-- Document 01, "Edges (* to be proved)", as one table of what the steps answer and leave.
+use Prim.Native.Nat.{ℕ, _+_, _≤_}
+use mathlib.Core.Path.{_≡_}
+use mathlib.Core.Logic.{_≢_}
+use mathlib.Core.Bool.{Bool, true}
+use mathlib.Core.List.{List, [], _∷_, map}
+use lib.ListN.{length, replicate, take}
+use lib.IntN.{ℤ, pos, negℤ}
+use Rattle.lists.specs.Lists.{sumOf}
+use Rattle.view.specs.View.{block, place, plainView, position}
+use Rattle.line.specs.declared.Purpose.{Purpose}
+use Rattle.line.specs.declared.Phase.{Phase}
+use Rattle.line.specs.Line.{phaseAt, Shaped, unopened}
+use Rattle.line.specs.Sound.{sound}
+use Rattle.waitlist.specs.declared.Wakes.{Wakes}
+use Rattle.event.specs.Event.{given}
+use Rattle.event.specs.declared.Blocks.{Blocks}
+use Rattle.event.specs.declared.Event.{Event}
+use Rattle.steps.specs.State.{Result, State}
+use Rattle.steps.specs.Effects.{purposeOf}
+use Rattle.steps.specs.Refusals.{laneOf, namesLane}
+use Rattle.steps.specs.Step.{afterCalls, callBytes, callEvent, calls}
+use Rattle.steps.specs.declared.Answer.{Answer}
+use Rattle.sheet.specs.Print.{linebook}
+use Rattle.sheet.specs.Text.{ascii}
+
+-- ---- answers, and the states that lists of events lead to
+abbrev pub answerTo : State → Event → Answer
+answerTo x e = callEvent x e .answer
+
+abbrev pub answersTo : State → List Event → List Answer
+answersTo x events = map (λ (r : Result). r .answer) (calls x (map given events))
+
+abbrev pub afterEvents : State → List Event → State
+afterEvents x events = afterCalls x (map given events)
+
+-- what the events leave of an unopened line and a book of n bytes
+abbrev pub reached : ℕ → List Event → State
+reached n events = afterEvents (record { line = unopened; book = replicate n 0 }) events
+
+abbrev pub isSound : State → Bool
+isSound x = sound (x .line) (length (x .book))
+
+abbrev pub phasesOf : State → List ℕ → List Phase
+phasesOf x lanes = map (phaseAt (x .line)) lanes
+
+abbrev pub minus : ℕ → ℤ
+minus n = negℤ (pos n)
+
+-- ---- the lines of the edges
+-- a sound line of one lane, whatever else it is
+pub record Alone (x : State) : Type 0 where
+  pub shaped : Shaped (x .line)
+  pub sound : isSound x ≡ true
+  pub one : x .line .lanes ≡ 1
+
+-- N = 64: lane 63 holds for this purpose, 0 and 62 wait
+abbrev pub at63 : ℕ → State
+at63 purpose = reached 64 (Event.Open 64 64 ∷ Event.Want 63 purpose ∷ Event.Want 0 0 ∷ Event.Want 62 2 ∷ [])
+
+-- N = 64: lane 5 holds for this purpose, only 4 waits
+abbrev pub at5 : ℕ → State
+at5 purpose = reached 64 (Event.Open 64 64 ∷ Event.Want 5 purpose ∷ Event.Want 4 1 ∷ [])
+
+-- displacement 4, extent 5, blocks (1, 2) and (4, 1); lane 0 holds for this purpose
+abbrev pub twoBlocks : Blocks
+twoBlocks =
+    record {
+      b0 = block 1 2;
+      b1 = block 4 1;
+      b2 = block 0 0;
+      b3 = block 0 0;
+      b4 = block 0 0;
+      b5 = block 0 0;
+      b6 = block 0 0;
+      b7 = block 0 0;
+    }
+
+abbrev pub viewed : ℕ → State
+viewed purpose = reached 64 (Event.Open 1 64 ∷ Event.View 4 5 2 twoBlocks ∷ Event.Want 0 purpose ∷ [])
+
+-- plain view, this capacity, pointer 0; lane 0 holds for a shared write
+abbrev pub plain : ℕ → State
+plain capacity = reached capacity (Event.Open 1 capacity ∷ Event.Want 0 0 ∷ [])
+
+-- pointer 3
+abbrev pub pointer3 : State
+pointer3 = reached 64 (Event.Open 1 64 ∷ Event.Seek 0 (pos 3) ∷ [])
+
+-- size 24: a record was put at place 2
+abbrev pub size24 : State
+size24 = reached 64 (Event.Open 1 64 ∷ Event.Want 0 2 ∷ Event.Put 0 (place 2) 7 ∷ Event.Free 0 ∷ [])
+
+-- plain view, capacity 120, N = 3, pointer 10
+abbrev pub pointer10 : State
+pointer10 = reached 120 (Event.Open 3 120 ∷ Event.Seek 0 (pos 10) ∷ [])
+
+-- lanes 0, 1, 2 enter 2, 0, 3
+abbrev pub enter0 : Event
+enter0 = Event.Enter 0 2
+
+abbrev pub enter1 : Event
+enter1 = Event.Enter 1 0
+
+abbrev pub enter2 : Event
+enter2 = Event.Enter 2 3
+
+-- "pointer + the counts of lanes below r"
+abbrev pub startOf : ℕ → List ℕ → ℕ → ℕ
+startOf pointer counts r = pointer + sumOf (λ (n : ℕ). n) (take r counts)
+
+-- the three entries in one order: the third completes the call
+pub record Entered (a b c : Event) : Type 0 where
+  pub answers : answersTo pointer10 (a ∷ b ∷ c ∷ []) ≡ Answer.Gathered ∷ Answer.Gathered ∷ Answer.Ordered (place 10) 5 ∷ []
+  pub lanes :
+      phasesOf (afterEvents pointer10 (a ∷ b ∷ c ∷ [])) (0 ∷ 1 ∷ 2 ∷ [])
+      ≡ Phase.BusyWriting 2 (place 10) ∷ Phase.Idle ∷ Phase.BusyWriting 3 (place 12) ∷ []
+  pub pointer : afterEvents pointer10 (a ∷ b ∷ c ∷ []) .line .pointer ≡ place 15
+  pub sound : isSound (afterEvents pointer10 (a ∷ b ∷ c ∷ [])) ≡ true
+
+-- ---- the starred edges
+pub record StarredEdges : Type 0 where
+  -- "N = 1: want answers holds, never waits"
+  pub alone-never-waits : (x : State) → Alone x → (i purpose : ℕ) → answerTo x (Event.Want i purpose) ≢ Answer.Waits
+  pub alone-answers-holds : (x : State) → Alone x → phaseAt (x .line) 0 ≡ Phase.Idle → (purpose : ℕ) → purpose ≤ 2
+      → answerTo x (Event.Want 0 purpose) ≡ Answer.Holds (x .line .pointer)
+  pub alone-then-holds : (x : State) → Alone x → phaseAt (x .line) 0 ≡ Phase.Idle → (purpose : ℕ) → purpose ≤ 2
+      → phaseAt (callEvent x (Event.Want 0 purpose) .after .line) 0 ≡ Phase.Holding (purposeOf purpose) (x .line .pointer)
+  -- "N = 64, lane 63 releases, 0 and 62 wait: wakes 0"
+  pub line-63 :
+      phasesOf (at63 0) (0 ∷ 62 ∷ 63 ∷ [])
+      ≡ Phase.Waiting Purpose.SharedWrite ∷ Phase.Waiting Purpose.WholeBook ∷ Phase.Holding Purpose.SharedWrite (place 0) ∷ []
+  pub sound-63 : map (λ (purpose : ℕ). isSound (at63 purpose)) (0 ∷ 2 ∷ []) ≡ true ∷ true ∷ []
+  pub take-63 : answerTo (at63 0) (Event.Take 63 1) ≡ Answer.Region (place 0) 1 (Wakes.Lane 0)
+  pub free-63 : answerTo (at63 2) (Event.Free 63) ≡ Answer.Freed (Wakes.Lane 0)
+  -- "Lane 5 releases, only 4 waits: wakes 4"
+  pub line-5 : phasesOf (at5 0) (4 ∷ 5 ∷ []) ≡ Phase.Waiting Purpose.SharedRead ∷ Phase.Holding Purpose.SharedWrite (place 0) ∷ []
+  pub sound-5 : map (λ (purpose : ℕ). isSound (at5 purpose)) (0 ∷ 2 ∷ []) ≡ true ∷ true ∷ []
+  pub take-5 : answerTo (at5 0) (Event.Take 5 1) ≡ Answer.Region (place 0) 1 (Wakes.Lane 4)
+  pub free-5 : answerTo (at5 2) (Event.Free 5) ≡ Answer.Freed (Wakes.Lane 4)
+  -- "Displacement 4, extent 5, blocks (1, 2) and (4, 1): places 0, 1, 2, 3 lie at 12, 20, 36, 52"
+  pub view-puts : (content : ℕ)
+      → map (λ (k : ℕ). answerTo (viewed 2) (Event.Put 0 (place k) content)) (0 ∷ 1 ∷ 2 ∷ 3 ∷ [])
+      ≡ Answer.Wrote (position 12) ∷ Answer.Wrote (position 20) ∷ Answer.Wrote (position 36) ∷ Answer.Wrote (position 52) ∷ []
+  pub view-writes : (content : ℕ)
+      → answersTo (viewed 0) (Event.Take 0 4 ∷ replicate 4 (Event.Write 0 content))
+      ≡ Answer.Region (place 0) 4 Wakes.None
+      ∷ Answer.Wrote (position 12)
+      ∷ Answer.Wrote (position 20)
+      ∷ Answer.Wrote (position 36)
+      ∷ Answer.Wrote (position 52)
+      ∷ []
+  -- "Plain view, capacity 64, pointer 0: 8 records fit, 9 give 16; capacity 63: 7 fit"
+  pub fit-64 : answerTo (plain 64) (Event.Take 0 8) ≡ Answer.Region (place 0) 8 Wakes.None
+  pub overfill-64 : answerTo (plain 64) (Event.Take 0 9) ≡ Answer.Refused 16
+  pub fit-63 : answerTo (plain 63) (Event.Take 0 7) ≡ Answer.Region (place 0) 7 Wakes.None
+  pub overfill-63 : answerTo (plain 63) (Event.Take 0 8) ≡ Answer.Refused 16
+  -- "Pointer 3, whence 1: −3 gives 0, −4 gives 15", as events and as bytes
+  pub back-3 : answerTo pointer3 (Event.Seek 1 (minus 3)) ≡ Answer.Seek (place 0)
+  pub back-4 : answerTo pointer3 (Event.Seek 1 (minus 4)) ≡ Answer.Refused 15
+  pub bytes-back-3 : callBytes pointer3 0x0C (1 ∷ 0xFF ∷ 0xFF ∷ 0xFF ∷ 0xFD ∷ []) .answer ≡ Answer.Seek (place 0)
+  pub bytes-back-4 : callBytes pointer3 0x0C (1 ∷ 0xFF ∷ 0xFF ∷ 0xFF ∷ 0xFC ∷ []) .answer ≡ Answer.Refused 15
+  -- "Whence 0: 65,536 is taken, 65,537 gives 15"
+  pub seek-most : answerTo pointer3 (Event.Seek 0 (pos 65536)) ≡ Answer.Seek (place 65536)
+  pub seek-past : answerTo pointer3 (Event.Seek 0 (pos 65537)) ≡ Answer.Refused 15
+  -- "Size 24, whence 2, offset 0: pointer 3"
+  pub size-24 : size24 .line .size ≡ 24
+  pub seek-end : answerTo size24 (Event.Seek 2 (pos 0)) ≡ Answer.Seek (place 3)
+  pub pointer-end : callEvent size24 (Event.Seek 2 (pos 0)) .after .line .pointer ≡ place 3
+  -- "Plain view, capacity 120, N = 3, pointer 10, lanes 0, 1, 2 enter 2, 0, 3 in any order: starts 10, 12, 12, pointer 15"
+  pub view-10 : pointer10 .line .view ≡ plainView
+  pub pointer-10 : pointer10 .line .pointer ≡ place 10
+  pub order-012 : Entered enter0 enter1 enter2
+  pub order-021 : Entered enter0 enter2 enter1
+  pub order-102 : Entered enter1 enter0 enter2
+  pub order-120 : Entered enter1 enter2 enter0
+  pub order-201 : Entered enter2 enter0 enter1
+  pub order-210 : Entered enter2 enter1 enter0
+  pub starts : map (startOf 10 (2 ∷ 0 ∷ 3 ∷ [])) (0 ∷ 1 ∷ 2 ∷ []) ≡ 10 ∷ 12 ∷ 12 ∷ []
+
+-- ---- the edges that bear no star
+pub record OtherEdges : Type 0 where
+  -- "N = 65 gives 6"
+  pub lanes-65 : (x : State) → isSound x ≡ true → x .line .lanes ≡ 0 → (capacity : ℕ) → answerTo x (Event.Open 65 capacity) ≡ Answer.Refused 6
+  -- "lane N gives 8", for every call that names a lane
+  pub lane-N : (x : State) → isSound x ≡ true → x .line .lanes ≢ 0 → (e : Event) → namesLane e ≡ true → laneOf e ≡ x .line .lanes
+      → answerTo x e ≡ Answer.Refused 8
+  -- "an empty sheet prints `end 0 0`"
+  pub empty-sheet : linebook [] ≡ ascii "end 0 0\n"
