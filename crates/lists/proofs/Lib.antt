@@ -2,3 +2,5 @@
 pub mod Tests
 pub mod Counts
 pub mod Laws
+pub mod Loops
+pub mod Maps

@@ -1,7 +1,55 @@
 // The waitlist: which lane a release wakes.
+ghost use Prim.Native.Nat.{_+_, _-_, _≤_};
+ghost use mathlib.Core.Path.{_≡_};
+ghost use lib.ListN.{getD};
+ghost use Rattle.waitlist.specs.NextLane.{firstRaised, nextLane};
 
 // The lane that a release wakes, if a lane waits.
 pub enum Wakes {
     Lane(u8),
     None,
+}
+
+// A lane's number as an index.
+fn index(lane: u8) -> usize
+    ensures { λ r. ⌜ r ≡ lane ⌝ }
+{
+    lane as usize
+}
+
+// The flag of lane i; a lane past the row has none up.
+fn flag_at(flags: &[u8], i: usize) -> u8
+    ensures { λ r. ⌜ r ≡ getD (now (flags .entry)) i 0 ⌝ }
+{
+    if i < flags.len() {
+        return flags[i];
+    }
+    0
+}
+
+// The first flagged lane from start up to, and not including, end.
+fn first_raised(flags: &[u8], start: usize, end: usize) -> Wakes
+    requires { ⌜ end ≤ 255 ⌝ }
+    ensures { λ r. ⌜ r ≡ firstRaised (now (flags .entry)) start (end - start) ⌝ }
+{
+    let mut i = start;
+    while i < end {
+        if flag_at(flags, i) == 1 {
+            return Wakes::Lane(i as u8);
+        }
+        i += 1;
+    }
+    Wakes::None
+}
+
+// The next lane: the first flagged one after the releaser, upwards, then from 0.
+pub fn next_lane(lanes: u8, flags: &[u8], releaser: u8) -> Wakes
+    ensures { λ r. ⌜ r ≡ nextLane lanes (now (flags .entry)) releaser ⌝ }
+{
+    let end = index(lanes);
+    let above = first_raised(flags, index(releaser) + 1, end);
+    match above {
+        Wakes::Lane(i) => Wakes::Lane(i),
+        Wakes::None => first_raised(flags, 0, end),
+    }
 }

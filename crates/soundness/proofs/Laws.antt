@@ -1,0 +1,99 @@
+-- How the test of the flags moves on by one lane, what flags that are those of the phases give, and the test of the plain view.
+use Prim.Native.Nat.{ℕ, _+_, _≤_, _<_}
+use mathlib.Core.Path.{_≡_, refl, sym, _∙_}
+use mathlib.Core.Bool.{Bool, true, false, _&&_}
+use mathlib.Core.List.{List, [], _∷_, map}
+use native.Mathlib.Omega.{arith}
+use native.Mathlib.Nat.{not-suc-le-zero}
+use lib.ListN.{drop, getD, length, length-map, take, List·getD-map}
+use lib.Dec.{eqb, ltb}
+use Rattle.lists.specs.Lists.{all, any, count, sameNumbers}
+use Rattle.lists.proofs.Loops.{same-end, same-more, same-stop}
+use Rattle.lists.proofs.Maps.{all-map, all-weaker, any-count, any-map, drop-map, same-equal}
+use Rattle.view.specs.View.{block, inOrder, isPlain, isPlainBlocks, isUnused, viewOk}
+use Rattle.view.specs.declared.Block.{Block}
+use Rattle.view.specs.declared.View.{View}
+use Rattle.line.specs.Line.{flagFor, idleLane, isIdle, mostLanes, on}
+use Rattle.line.specs.Sound.{flagsOk, pastOk}
+use Rattle.line.specs.declared.Lane.{Lane}
+use Rattle.line.specs.declared.Line.{Line}
+use Rattle.line.specs.declared.Phase.{Phase}
+use Rattle.soundness.specs.Rules.{isFlagged}
+
+pub and-true : (b : Bool) → (b && true) ≡ b
+and-true true = refl
+and-true false = refl
+
+-- what owning an array of structs tells of the length of its list
+pub unmapped : (A B : Type 0) (f : A → B) (l : List A) (n : ℕ) → length (map f l) ≡ n → length l ≡ n
+unmapped A B f l n e = sym (length-map l f) ∙ e
+
+module _ (flags : List ℕ) (ls : List Lane) (i : ℕ) (flags-length : length flags ≡ mostLanes) (lanes-length : length ls ≡ mostLanes) where
+  abbrev phase-flags : List ℕ
+  phase-flags = map (on flagFor) ls
+
+  as-long : length phase-flags ≡ mostLanes
+  as-long = length-map ls (on flagFor) ∙ lanes-length
+
+  flag-of : getD phase-flags i 0 ≡ flagFor (getD ls i idleLane .phase)
+  flag-of = List·getD-map (on flagFor) ls i idleLane
+
+  pub flags-end : mostLanes ≤ i → sameNumbers (drop i flags) (drop i phase-flags) ≡ true
+  flags-end h = same-end flags phase-flags i 0 0 (omega arith) (omega (arith, as-long))
+
+  pub flags-stop : i < mostLanes → (getD flags i 0 ≡ flagFor (getD ls i idleLane .phase) → ⊥) → sameNumbers (drop i flags) (drop i phase-flags) ≡ false
+  flags-stop h ne = same-stop flags phase-flags i 0 0 (omega arith) (omega (arith, as-long)) (λ e. ne (e ∙ flag-of))
+
+  pub flags-more : i < mostLanes → getD flags i 0 ≡ flagFor (getD ls i idleLane .phase) → sameNumbers (drop i flags) (drop i phase-flags) ≡ sameNumbers (drop (i + 1) flags) (drop (i + 1) phase-flags)
+  flags-more h e = same-more flags phase-flags i 0 0 (omega arith) (omega (arith, as-long)) (e ∙ sym flag-of)
+
+-- ---- flags that are those of the phases
+idle-flag : (x : Phase) → isIdle x ≡ true → eqb 0 (flagFor x) ≡ true
+idle-flag Phase.Idle e = refl
+idle-flag (Phase.Waiting p) e = e
+idle-flag (Phase.Woken p v) e = e
+idle-flag (Phase.Holding p v) e = e
+idle-flag (Phase.BusyWriting left next) e = refl
+idle-flag (Phase.BusyReading left next) e = refl
+idle-flag (Phase.Gathered n) e = refl
+
+module _ (l : Line) (ok : flagsOk l ≡ true) where
+  same : l .flag ≡ map (on flagFor) (l .lane)
+  same = same-equal (l .flag) (map (on flagFor) (l .lane)) ok
+
+  -- a flag is up where a phase has one
+  pub raised-any : any (eqb 1) (l .flag) ≡ ltb 0 (count (on isFlagged) (l .lane))
+  raised-any = rw same (any-map (on flagFor) (eqb 1) (l .lane) ∙ any-count (on isFlagged) (l .lane))
+
+  idle-past : all (on isIdle) (drop (l .lanes) (l .lane)) ≡ true → all (eqb 0) (drop (l .lanes) (l .flag)) ≡ true
+  idle-past idle =
+      rw (same, drop-map (on flagFor) (l .lanes) (l .lane), all-map (on flagFor) (eqb 0) (drop (l .lanes) (l .lane)))
+      (all-weaker (on isIdle) (λ x. eqb 0 (flagFor (x .phase))) (λ x e. idle-flag (x .phase) e) (drop (l .lanes) (l .lane)) idle)
+
+  -- past N it is enough that the lanes are idle
+  pub past-idle : all (on isIdle) (drop (l .lanes) (l .lane)) ≡ pastOk l
+  past-idle = by-test (all (on isIdle) (drop (l .lanes) (l .lane))) refl idle-past
+    where
+      by-test : (b : Bool) → all (on isIdle) (drop (l .lanes) (l .lane)) ≡ b → (b ≡ true → all (eqb 0) (drop (l .lanes) (l .flag)) ≡ true) → b ≡ (b && all (eqb 0) (drop (l .lanes) (l .flag)))
+      by-test true e f = sym (f refl)
+      by-test false e f = refl
+
+-- ---- the plain view
+abbrev pub firstBlock : List Block → Block
+firstBlock bs = getD bs 0 (block 0 0)
+
+-- the test of the blocks, by the first one and the others
+pub plain-blocks : (bs : List Block) → 0 < length bs → isPlainBlocks bs ≡ (eqb (firstBlock bs .start) 0 && eqb (firstBlock bs .length) 1 && all isUnused (drop 1 bs))
+plain-blocks [] h = absurd (not-suc-le-zero h)
+plain-blocks (b ∷ bs) h = refl
+
+first-in-order : (bs : List Block) → 0 < length bs → firstBlock bs .start ≡ 0 → firstBlock bs .length ≡ 1 → inOrder 1 0 (take 1 bs) ≡ true
+unfolding inOrder
+first-in-order [] h start size = absurd (not-suc-le-zero h)
+first-in-order (b ∷ bs) h start size = rw (start, size)
+
+-- with the numbers of the plain view the rules of a view leave that the other blocks are unused
+pub plain-ok : (v : View) → 0 < length (v .block) → v .displacement ≡ 0 → v .extent ≡ 1 → v .used ≡ 1 → firstBlock (v .block) .start ≡ 0 → firstBlock (v .block) .length ≡ 1 → viewOk 0 v ≡ isPlain v
+unfolding viewOk
+plain-ok v h displacement extent used start size =
+    rw (displacement, extent, used, first-in-order (v .block) h start size, plain-blocks (v .block) h, start, size)

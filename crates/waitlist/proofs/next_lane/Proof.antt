@@ -1,0 +1,54 @@
+-- `next_lane` meets its contract: the second search counts where the first finds nothing.
+use native.Mathlib.Nat.{sub-zero}
+use borrow.Author.Needs.{needs}
+use Rattle.waitlist.specs.NextLane.{nextLane}
+use Rattle.waitlist.proofs.next_lane.Statement.{statement}
+use Rattle.waitlist.proofs.next_lane.Tie as tie
+
+index-requires : tie.Need-index-requires
+index-requires c κs = search needs
+
+index-requires-2 : tie.Need-index-requires-2
+index-requires-2 c κs = search needs
+
+add-first-raised : tie.Need-add-first-raised
+add-first-raised c = search needs
+
+first-raised-requires : tie.Need-first-raised-requires
+first-raised-requires c κs = search needs
+
+enum-known-above : tie.Need-enum-known-above
+enum-known-above c = search needs
+
+enum-told : tie.Need-enum-told
+enum-told c = search needs
+
+first-raised-requires-2 : tie.Need-first-raised-requires-2
+first-raised-requires-2 c κs = search needs
+
+returns : tie.Need-returns
+unfolding nextLane
+returns c =
+    let s = c .before .before .before in
+    rw (← s .before .before .index .ensures, ← s .before .index2 .ensures, ← s .first-raised .ensures, c .before .above .given .1)
+
+returns-2 : tie.Need-returns-2
+unfolding nextLane
+returns-2 c =
+    let s = c .before .before .before in
+    rw (← s .before .before .index .ensures, ← s .before .index2 .ensures, ← s .first-raised .ensures, c .before .enum-told .given .1)
+    (rw sub-zero at (c .first-raised2 .ensures))
+
+pub next-lane-spec : {M : Type 1} → statement M
+next-lane-spec =
+    tie.close
+    (tie.spec
+    index-requires
+    index-requires-2
+    add-first-raised
+    first-raised-requires
+    enum-known-above
+    enum-told
+    first-raised-requires-2
+    returns
+    returns-2)
