@@ -1,6 +1,6 @@
 -- The steps of want, receive, take and free past their first tests, by what was decided of the lane's phase.
 use Prim.Native.Nat.{ℕ, _+_}
-use mathlib.Core.Path.{_≡_, refl}
+use mathlib.Core.Path.{_≡_, refl, ap, _∙_}
 use mathlib.Core.Bool.{Bool, true, false, cond, not, _&&_}
 use lib.Dec.{ltb}
 use Rattle.lists.specs.Lists.{any}
@@ -8,7 +8,6 @@ use Rattle.view.specs.View.{fits}
 use Rattle.view.specs.declared.Place.{Place}
 use Rattle.line.specs.declared.Purpose.{Purpose}
 use Rattle.line.specs.declared.Phase.{Phase}
-use Rattle.line.specs.declared.Line.{Line}
 use Rattle.line.specs.Line.{holdsShared, holdsWhole, isGathered, isIdle, isSharedRead, isSharedWrite, isWaiting, isWoken, mostPointer, on, phaseAt, placeIn, purposeIn}
 use Rattle.steps.specs.declared.Answer.{Answer}
 use Rattle.steps.specs.State.{Result, State, leaves, withPhase}
@@ -47,7 +46,7 @@ abbrev pub byReceived : State → ℕ → Received → Result
 byReceived x i (Received.Holding q v) = leaves (Answer.Holds v) (withPhase (x .line) i (Phase.Holding q v)) (x .book)
 byReceived x i (Received.Refused k) = refuse k x
 
-pub receive-by : (x : State) (i : ℕ) (p : Phase) → receiveAt x i p ≡ byReceived x i (receivedFrom p)
+receive-by : (x : State) (i : ℕ) (p : Phase) → receiveAt x i p ≡ byReceived x i (receivedFrom p)
 receive-by x i Phase.Idle = refl
 receive-by x i (Phase.Waiting q) = refl
 receive-by x i (Phase.Woken q v) = refl
@@ -55,6 +54,9 @@ receive-by x i (Phase.Holding q v) = refl
 receive-by x i (Phase.BusyWriting left next) = refl
 receive-by x i (Phase.BusyReading left next) = refl
 receive-by x i (Phase.Gathered n) = refl
+
+pub receive-found : (x : State) (i : ℕ) (p : Phase) (t : Received) → receivedFrom p ≡ t → receiveAt x i p ≡ byReceived x i t
+receive-found x i p t e = receive-by x i p ∙ ap (byReceived x i) e
 
 -- ---- 04: 13 15 16
 abbrev pub takeAt : Search → State → ℕ → ℕ → Phase → Result
@@ -80,7 +82,7 @@ module _ (search : Search) (x : State) (i c : ℕ) where
   take-held Purpose.SharedRead v = through (byTaken search x i c) (ltb mostPointer (v .0 + c)) (Taken.Refused 15) (Taken.Region v (reading c v))
   take-held Purpose.WholeBook v = refl
 
-  pub take-by : (p : Phase) → takeAt search x i c p ≡ byTaken search x i c (takenFrom p (x .line .view) (x .line .capacity) c)
+  take-by : (p : Phase) → takeAt search x i c p ≡ byTaken search x i c (takenFrom p (x .line .view) (x .line .capacity) c)
   take-by Phase.Idle = refl
   take-by (Phase.Waiting q) = refl
   take-by (Phase.Woken q v) = refl
@@ -88,6 +90,9 @@ module _ (search : Search) (x : State) (i c : ℕ) where
   take-by (Phase.BusyWriting left next) = refl
   take-by (Phase.BusyReading left next) = refl
   take-by (Phase.Gathered n) = refl
+
+  pub take-found : (p : Phase) (t : Taken) → takenFrom p (x .line .view) (x .line .capacity) c ≡ t → takeAt search x i c p ≡ byTaken search x i c t
+  take-found p t e = take-by p ∙ ap (byTaken search x i c) e
 
 -- ---- 09: 13
 abbrev pub freeAt : Search → State → ℕ → Result

@@ -1,7 +1,7 @@
 -- How a call that names a lane goes through the tests that come first, what a sound line gives it, and when an outcome meets a step.
-use Prim.Native.Nat.{ℕ, zero, suc, _≤_, _<_}
-use mathlib.Core.Path.{_≡_, refl, sym, ap, _∙_}
-use mathlib.Core.Bool.{true, false}
+use Prim.Native.Nat.{ℕ, _≤_, _<_}
+use mathlib.Core.Path.{_≡_, refl, _∙_}
+use mathlib.Core.Bool.{true}
 use mathlib.Core.List.{List, [], _∷_}
 use native.Mathlib.Omega.{arith}
 use native.Mathlib.Decide.{decLt}
@@ -15,7 +15,6 @@ use Rattle.line.proofs.Facts.{when-open}
 use Rattle.steps.specs.declared.Answer.{Answer}
 use Rattle.steps.specs.declared.Outcome.{Outcome}
 use Rattle.steps.specs.State.{Result, leaves}
-use Rattle.steps.specs.Step.{refuse}
 use Rattle.steps.specs.Meets.{Meets, stateOf}
 use Rattle.steps.proofs.Chains.{atLane}
 use Rattle.turns.specs.Outcomes.{outcome}

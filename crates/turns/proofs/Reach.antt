@@ -1,6 +1,6 @@
 -- A take's start is the pointer of a sound line, so the pointer past its region is a number of 32 bits.
 use Prim.Native.Nat.{ℕ, _+_, _≤_, _<_}
-use mathlib.Core.Path.{_≡_, refl, sym, ap, _∙_}
+use mathlib.Core.Path.{_≡_, refl, ap}
 use mathlib.Core.Bool.{Bool, true, false, cond, not}
 use native.Mathlib.Omega.{arith}
 use lib.Dec.{ltb}
@@ -30,7 +30,8 @@ value-reach l buffer shape ok h i t =
 
 -- ---- a region starts at the value of a lane that holds
 not-region : {X : Type 0} (k : ℕ) (v : Place) (y : Phase) → Taken.Refused k ≡ Taken.Region v y → X
-not-region k v y e = let z : _≡_ {A = ℕ} 0 1 = cc in absurd (omega arith)
+not-region k v y e =
+    let z : _≡_ {A = ℕ} 0 1 = cc in absurd (omega arith)
 
 same-start : (a v : Place) (x y : Phase) → Taken.Region a x ≡ Taken.Region v y → a ≡ v
 same-start a v x y e = cc

@@ -25,7 +25,7 @@ use steps::Outcome;
 use view::Place;
 use waitlist::Wakes;
 
-mod phases;
+pub mod phases;
 
 use phases::Received;
 use phases::Taken;
@@ -184,10 +184,7 @@ fn release(line: Line, lane: u8, phase: Phase, pointer: Place) -> Released
     let flag = next.flag;
     let wakes = waitlist::next_lane(lanes, &flag, lane);
     match wakes {
-        Wakes::None => Released {
-            line: next,
-            wakes,
-        },
+        Wakes::None => Released { line: next, wakes },
         Wakes::Lane(number) => {
             let w = number as usize;
             let woken = next.lane[w];
@@ -195,10 +192,7 @@ fn release(line: Line, lane: u8, phase: Phase, pointer: Place) -> Released
             next.lane[w] = Lane {
                 phase: phases::wake_with(pointer, waiting),
             };
-            Released {
-                line: next,
-                wakes,
-            }
+            Released { line: next, wakes }
         }
     }
 }

@@ -8,6 +8,9 @@ use line::Purpose;
 use view::Place;
 use view::View;
 
+// The most that the pointer can be.
+const MOST_POINTER: u64 = 65536;
+
 // What a receive finds: the lane's purpose and the wake's value, or the refusal.
 pub enum Received {
     Holding(Purpose, Place),
@@ -122,18 +125,24 @@ fn take_to_write(value: Place, view: View, capacity: u32, count: u16) -> Taken
         return Taken::Refused(16);
     }
     let phase = to_write(count, value);
-    Taken::Region { start: value, phase }
+    Taken::Region {
+        start: value,
+        phase,
+    }
 }
 
 // The take of a shared read, which may run past the capacity; the pointer must stay in its range.
 fn take_to_read(value: Place, count: u16) -> Taken
     ensures { λ r. ⌜ r ≡ takenToRead value count ⌝ }
 {
-    if 65536 < value.0 as u64 + count as u64 {
+    if MOST_POINTER < value.0 as u64 + count as u64 {
         return Taken::Refused(15);
     }
     let phase = to_read(count, value);
-    Taken::Region { start: value, phase }
+    Taken::Region {
+        start: value,
+        phase,
+    }
 }
 
 // The take of a lane that holds.

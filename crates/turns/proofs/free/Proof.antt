@@ -1,17 +1,15 @@
 -- `free` meets its contract: the release carries the pointer as it is.
-use Prim.Native.Nat.{ℕ, _≤_, _<_}
-use mathlib.Core.Path.{_≡_, refl, sym, ap, _∙_}
-use mathlib.Core.Bool.{true, false}
+use Prim.Native.Nat.{_<_}
+use mathlib.Core.Path.{_≡_, sym, _∙_}
 use native.Mathlib.Omega.{arith}
-use Rattle.line.specs.Line.{mostLanes, phaseAt}
+use Rattle.line.specs.Line.{mostLanes}
 use Rattle.waitlist.specs.NextLane.{nextLane}
 use Rattle.event.specs.declared.Event.{Event}
 use Rattle.steps.specs.declared.Answer.{Answer}
 use Rattle.steps.specs.State.{Result, State}
 use Rattle.steps.specs.Step.{callEvent}
-use Rattle.steps.specs.Meets.{Meets, stateOf}
+use Rattle.steps.specs.Meets.{stateOf}
 use borrow.Author.Tests.{not-false, not-true}
-use Rattle.line.specs.Line.{holdsWhole}
 use Rattle.steps.specs.Effects.{freed, nextOf, released}
 use Rattle.steps.proofs.Chains.{free-chain}
 use Rattle.turns.proofs.Exits.{LaneCall, at-lane, lane-few, meets, meets-4, meets-8}
@@ -19,12 +17,8 @@ use Rattle.turns.proofs.Decided.{free-13, free-on, freeAt}
 use borrow.Author.Needs.{needs}
 use Rattle.turns.proofs.free.Statement.{statement}
 use Rattle.turns.proofs.free.Tie as tie
-use Rattle.turns.proofs.free.Reads as reads
-use Rattle.turns.proofs.free.Lts as lts
-use Rattle.turns.proofs.phases.holds_whole.Reads as holds-whole-reads
-use Rattle.turns.proofs.refuse.Reads as refuse-reads
-use Rattle.turns.proofs.release.Reads as release-reads
 
+-- the step that the contract names, and what is left of it past the tests of 4 and 8
 abbrev state : tie.Start → State
 state s = stateOf (s .args .line) (s .args .book .now)
 
@@ -40,6 +34,7 @@ call s = record { ok = s .pre; chain = free-chain nextLane (state s) (s .args .l
 abbrev start : tie.Else2 → tie.Start
 start c = c .before .before .before
 
+-- past these tests: the step goes on, and the lane is one of the arrays
 on : (c : tie.Else2) → step (start c) ≡ rest (start c)
 on c = at-lane (call (start c)) (c .before .if1 .left) (c .if2 .left)
 
@@ -71,7 +66,8 @@ refuse-requires-3 : tie.Need-refuse-requires-3
 refuse-requires-3 c κs = search needs
 
 returns-3 : tie.Need-returns-3
-returns-3 c = let h = c .before .before in
+returns-3 c =
+    let h = c .before .before in
     let e = h .before .before .before in
     let s = start e in
     meets (Answer.Refused 13) (s .args .line) (s .args .book .now) (step s) (c .refuse3 .result)
@@ -79,11 +75,13 @@ returns-3 c = let h = c .before .before in
     (c .refuse3 .ensures)
 
 release-requires : tie.Need-release-requires
-release-requires c κs = let e = c .before .before .before .before .before in
+release-requires c κs =
+    let e = c .before .before .before .before .before in
     (lane-few (call (start e)), e .if2 .left)
 
 returns-4 : tie.Need-returns-4
-returns-4 c = let f = c .before .before .before in
+returns-4 c =
+    let f = c .before .before .before in
     let h = f .before in
     let e = h .before .before .before in
     let s = start e in

@@ -1,11 +1,8 @@
 -- `raise` meets its contract, whatever the book.
-use mathlib.Core.Path.{_≡_, refl, sym, _∙_}
+use mathlib.Core.Path.{refl, sym, _∙_}
 use borrow.Author.Needs.{needs}
 use Rattle.turns.proofs.raise.Statement.{statement}
 use Rattle.turns.proofs.raise.Tie as tie
-use Rattle.turns.proofs.raise.Reads as reads
-use Rattle.turns.proofs.raise.Lts as lts
-use Rattle.turns.proofs.all_down.Reads as all-down-reads
 
 array-write-others : tie.Need-array-write-others
 array-write-others c = search needs

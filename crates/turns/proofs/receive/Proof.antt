@@ -1,30 +1,24 @@
 -- `receive` meets its contract.
-use Prim.Native.Nat.{ℕ, _≤_, _<_}
-use mathlib.Core.Path.{_≡_, refl, sym, ap, _∙_}
-use mathlib.Core.Bool.{true, false}
+use Prim.Native.Nat.{_<_}
+use mathlib.Core.Path.{_≡_, sym, _∙_}
 use native.Mathlib.Omega.{arith}
 use Rattle.line.specs.Line.{mostLanes, phaseAt}
 use Rattle.waitlist.specs.NextLane.{nextLane}
 use Rattle.event.specs.declared.Event.{Event}
 use Rattle.steps.specs.declared.Answer.{Answer}
-use Rattle.steps.specs.State.{Result, State}
+use Rattle.steps.specs.State.{Result, State, withPhase}
 use Rattle.steps.specs.Step.{callEvent}
-use Rattle.steps.specs.Meets.{Meets, stateOf}
+use Rattle.steps.specs.Meets.{stateOf}
 use Rattle.line.specs.declared.Phase.{Phase}
-use Rattle.steps.specs.State.{withPhase}
 use Rattle.steps.proofs.Chains.{receive-chain}
-use Rattle.turns.specs.Decisions.{receivedFrom}
+use Rattle.turns.specs.declared.phases.Received.{Received}
 use Rattle.turns.proofs.Exits.{LaneCall, at-lane, lane-few, meets, meets-4, meets-8}
-use Rattle.turns.proofs.Decided.{byReceived, receive-by, receiveAt}
+use Rattle.turns.proofs.Decided.{receive-found, receiveAt}
 use borrow.Author.Needs.{needs}
 use Rattle.turns.proofs.receive.Statement.{statement}
 use Rattle.turns.proofs.receive.Tie as tie
-use Rattle.turns.proofs.receive.Reads as reads
-use Rattle.turns.proofs.receive.Lts as lts
-use Rattle.turns.proofs.hold.Reads as hold-reads
-use Rattle.turns.proofs.phases.receive_from.Reads as receive-from-reads
-use Rattle.turns.proofs.refuse.Reads as refuse-reads
 
+-- the step that the contract names, and what is left of it past the tests of 4 and 8
 abbrev state : tie.Start → State
 state s = stateOf (s .args .line) (s .args .book .now)
 
@@ -40,14 +34,12 @@ call s = record { ok = s .pre; chain = receive-chain nextLane (state s) (s .args
 abbrev start : tie.Else2 → tie.Start
 start c = c .before .before .before
 
+-- past these tests: the step goes on, and the lane is one of the arrays
 on : (c : tie.Else2) → step (start c) ≡ rest (start c)
 on c = at-lane (call (start c)) (c .before .if1 .left) (c .if2 .left)
 
 a-lane : (c : tie.Else2) → start c .args .lane < mostLanes
 a-lane c = omega (arith, lane-few (call (start c)), c .if2 .left)
-
-by-phase : (c : tie.Else2) → step (start c) ≡ byReceived (state (start c)) (start c .args .lane) (receivedFrom (phaseAt (start c .args .line) (start c .args .lane)))
-by-phase c = on c ∙ receive-by (state (start c)) (start c .args .lane) (phaseAt (start c .args .line) (start c .args .lane))
 
 refuse-requires : tie.Need-refuse-requires
 refuse-requires c κs = search needs
@@ -83,21 +75,26 @@ refuse-requires-3 : tie.Need-refuse-requires-3
 refuse-requires-3 c κs = search needs
 
 returns-3 : tie.Need-returns-3
-returns-3 c = let f = c .before .before in
+returns-3 c =
+    let f = c .before .before in
     let p = f .before .before in
-    let e2 = p .before .before .before in
-    let s = start e2 in
-    meets (Answer.Holds (f .found .given .0 .1 .0)) (withPhase (s .args .line) (s .args .lane) (Phase.Holding (f .found .given .0 .0) (f .found .given .0 .1 .0))) (s .args .book .now) (step s) (c .hold .result)
-    (by-phase e2 ∙ ap (byReceived (state s) (s .args .lane)) (sym (p .receive-from .ensures) ∙ f .found .given .1))
+    let e = p .before .before .before in
+    let s = start e in
+    let q = f .found .given .0 .0 in
+    let v = f .found .given .0 .1 .0 in
+    meets (Answer.Holds v) (withPhase (s .args .line) (s .args .lane) (Phase.Holding q v)) (s .args .book .now) (step s) (c .hold .result)
+    (on e ∙ receive-found (state s) (s .args .lane) (phaseAt (s .args .line) (s .args .lane)) (Received.Holding q v) (sym (p .receive-from .ensures) ∙ f .found .given .1))
     (c .hold .ensures)
 
 returns-4 : tie.Need-returns-4
-returns-4 c = let f = c .before .before in
+returns-4 c =
+    let f = c .before .before in
     let p = f .before .before in
-    let e2 = p .before .before .before in
-    let s = start e2 in
-    meets (Answer.Refused (f .found2 .given .0 .0)) (s .args .line) (s .args .book .now) (step s) (c .refuse3 .result)
-    (by-phase e2 ∙ ap (byReceived (state s) (s .args .lane)) (sym (p .receive-from .ensures) ∙ f .found2 .given .1))
+    let e = p .before .before .before in
+    let s = start e in
+    let k = f .found2 .given .0 .0 in
+    meets (Answer.Refused k) (s .args .line) (s .args .book .now) (step s) (c .refuse3 .result)
+    (on e ∙ receive-found (state s) (s .args .lane) (phaseAt (s .args .line) (s .args .lane)) (Received.Refused k) (sym (p .receive-from .ensures) ∙ f .found2 .given .1))
     (c .refuse3 .ensures)
 
 pub receive-spec : {M : Type 1} → statement M

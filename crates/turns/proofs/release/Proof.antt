@@ -1,5 +1,5 @@
 -- `release` meets its contract: the search sees the releaser's flag down, and the wake carries the new pointer.
-use mathlib.Core.Path.{_≡_, sym, _∙_}
+use mathlib.Core.Path.{sym, _∙_}
 use Prim.Native.Nat.{_<_}
 use native.Mathlib.Omega.{arith}
 use Rattle.line.specs.Line.{mostLanes}
@@ -7,10 +7,6 @@ use Rattle.waitlist.proofs.Laws.{next-below}
 use borrow.Author.Needs.{needs}
 use Rattle.turns.proofs.release.Statement.{statement}
 use Rattle.turns.proofs.release.Tie as tie
-use Rattle.turns.proofs.release.Reads as reads
-use Rattle.turns.proofs.release.Lts as lts
-use Rattle.turns.proofs.phases.wake_with.Reads as wake-with-reads
-use Rattle.waitlist.proofs.next_lane.Reads as next-lane-reads
 
 -- the lane that is found is one of the line's
 found-below : (c : tie.After-wakes) → c .wakes .given .0 .0 < mostLanes
@@ -58,11 +54,13 @@ element-set-from-next-2 : tie.Need-element-set-from-next-2
 element-set-from-next-2 c = found-below (c .before .before .before)
 
 returns : tie.Need-returns
-returns c = let s = c .before .before in
+returns c =
+    let s = c .before .before in
     (s .next-lane .ensures, rw (← s .next-lane .ensures, c .enum-told .given .1))
 
 returns-2 : tie.Need-returns-2
-returns-2 c = let w = c .before .before .before in
+returns-2 c =
+    let w = c .before .before .before in
     let s = w .before .before in
     (sym (w .wakes .given .1) ∙ s .next-lane .ensures, rw (c .wake-with .ensures, ← s .next-lane .ensures, w .wakes .given .1))
 

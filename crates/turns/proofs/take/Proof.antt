@@ -1,34 +1,28 @@
 -- `take` meets its contract.
-use Prim.Native.Nat.{ℕ, _≤_, _<_}
-use mathlib.Core.Path.{_≡_, refl, sym, ap, _∙_}
-use mathlib.Core.Bool.{true, false}
+use Prim.Native.Nat.{_<_}
+use mathlib.Core.Path.{_≡_, sym, _∙_}
 use native.Mathlib.Omega.{arith}
-use Rattle.line.specs.Line.{mostLanes, phaseAt}
+use Rattle.line.specs.Line.{mostLanes, phaseAt, Shaped}
 use Rattle.waitlist.specs.NextLane.{nextLane}
 use Rattle.event.specs.declared.Event.{Event}
 use Rattle.steps.specs.declared.Answer.{Answer}
 use Rattle.steps.specs.State.{Result, State}
 use Rattle.steps.specs.Step.{callEvent}
-use Rattle.steps.specs.Meets.{Meets, stateOf}
-use lib.ListN.{length}
+use Rattle.steps.specs.Meets.{stateOf}
 use Rattle.lists.proofs.Laws.{length-unmapped}
-use Rattle.line.specs.Line.{Shaped}
 use Rattle.steps.specs.Effects.{nextOf, released}
 use Rattle.steps.proofs.Chains.{take-chain}
 use Rattle.turns.specs.Outcomes.{leaving}
+use Rattle.turns.specs.declared.phases.Taken.{Taken}
 use Rattle.turns.specs.Decisions.{takenFrom}
 use Rattle.turns.proofs.Exits.{LaneCall, at-lane, lane-few, meets, meets-4, meets-8}
-use Rattle.turns.proofs.Decided.{byTaken, take-by, takeAt}
+use Rattle.turns.proofs.Decided.{take-found, takeAt}
 use Rattle.turns.proofs.Reach.{start-reach}
 use borrow.Author.Needs.{needs}
 use Rattle.turns.proofs.take.Statement.{statement}
 use Rattle.turns.proofs.take.Tie as tie
-use Rattle.turns.proofs.take.Reads as reads
-use Rattle.turns.proofs.take.Lts as lts
-use Rattle.turns.proofs.phases.take_from.Reads as take-from-reads
-use Rattle.turns.proofs.refuse.Reads as refuse-reads
-use Rattle.turns.proofs.take_region.Reads as take-region-reads
 
+-- the step that the contract names, and what is left of it past the tests of 4 and 8
 abbrev state : tie.Start → State
 state s = stateOf (s .args .line) (s .args .book .now)
 
@@ -44,21 +38,26 @@ call s = record { ok = s .pre; chain = take-chain nextLane (state s) (s .args .l
 abbrev start : tie.Else2 → tie.Start
 start c = c .before .before .before
 
+-- past these tests: the step goes on, and the lane is one of the arrays
 on : (c : tie.Else2) → step (start c) ≡ rest (start c)
 on c = at-lane (call (start c)) (c .before .if1 .left) (c .if2 .left)
 
 a-lane : (c : tie.Else2) → start c .args .lane < mostLanes
 a-lane c = omega (arith, lane-few (call (start c)), c .if2 .left)
 
-by-phase : (c : tie.Else2) → step (start c) ≡ byTaken nextLane (state (start c)) (start c .args .lane) (start c .args .count) (takenFrom (phaseAt (start c .args .line) (start c .args .lane)) (start c .args .line .view) (start c .args .line .capacity) (start c .args .count))
-by-phase c =
-    let s = start c in
-    on c ∙ take-by nextLane (state s) (s .args .lane) (s .args .count) (phaseAt (s .args .line) (s .args .lane))
-
+-- the lengths that the types fix
 shaped : (s : tie.Start) → Shaped (s .args .line)
 shaped s =
     let g = s .good in
     record { lanes-length = search (length-unmapped, g); flags-length = search needs; blocks-length = search (length-unmapped, g) }
+
+-- what was decided of the lane's phase
+abbrev inside : tie.After-take-from → tie.Else2
+inside p = p .before .before .before .before
+
+decided : (p : tie.After-take-from) (t : Taken) → p .take-from .result ≡ t
+    → takenFrom (phaseAt (start (inside p) .args .line) (start (inside p) .args .lane)) (start (inside p) .args .line .view) (start (inside p) .args .line .capacity) (start (inside p) .args .count) ≡ t
+decided p t e = sym (p .take-from .ensures) ∙ e
 
 refuse-requires : tie.Need-refuse-requires
 refuse-requires c κs = search needs
@@ -85,12 +84,13 @@ enum-known-found : tie.Need-enum-known-found
 enum-known-found c = search needs
 
 take-region-requires : tie.Need-take-region-requires
-take-region-requires c κs = let f = c .before in
+take-region-requires c κs =
+    let f = c .before in
     let p = f .before .before in
-    let e = p .before .before .before .before in
+    let e = inside p in
     let s = start e in
     let some : 0 < s .args .line .lanes = omega (arith, e .if2 .left) in
-    (lane-few (call s), e .if2 .left, start-reach (s .args .line) _ (shaped s) (s .pre) some (s .args .lane) (s .args .count) (f .found .given .0 .0) (f .found .given .0 .1 .0) (sym (p .take-from .ensures) ∙ f .found .given .1))
+    (lane-few (call s), e .if2 .left, start-reach (s .args .line) _ (shaped s) (s .pre) some (s .args .lane) (s .args .count) (f .found .given .0 .0) (f .found .given .0 .1 .0) (decided p _ (f .found .given .1)))
 
 enum-known-found-2 : tie.Need-enum-known-found-2
 enum-known-found-2 c = search needs
@@ -99,24 +99,27 @@ refuse-requires-3 : tie.Need-refuse-requires-3
 refuse-requires-3 c κs = search needs
 
 returns-3 : tie.Need-returns-3
-returns-3 c = let f = c .before .before in
+returns-3 c =
+    let f = c .before .before in
     let p = f .before .before in
-    let e = p .before .before .before .before in
+    let e = inside p in
     let s = start e in
     let v = f .found .given .0 .0 in
     let y = f .found .given .0 .1 .0 in
     let after = leaving (s .args .line) (s .args .lane) (s .args .count) v y in
     meets (Answer.Region v (s .args .count) (nextOf nextLane after (s .args .lane))) (released nextLane after (s .args .lane)) (s .args .book .now) (step s) (c .take-region .result)
-    (by-phase e ∙ ap (byTaken nextLane (state s) (s .args .lane) (s .args .count)) (sym (p .take-from .ensures) ∙ f .found .given .1))
+    (on e ∙ take-found nextLane (state s) (s .args .lane) (s .args .count) (phaseAt (s .args .line) (s .args .lane)) (Taken.Region v y) (decided p (Taken.Region v y) (f .found .given .1)))
     (c .take-region .ensures)
 
 returns-4 : tie.Need-returns-4
-returns-4 c = let f = c .before .before in
+returns-4 c =
+    let f = c .before .before in
     let p = f .before .before in
-    let e = p .before .before .before .before in
+    let e = inside p in
     let s = start e in
-    meets (Answer.Refused (f .found2 .given .0 .0)) (s .args .line) (s .args .book .now) (step s) (c .refuse3 .result)
-    (by-phase e ∙ ap (byTaken nextLane (state s) (s .args .lane) (s .args .count)) (sym (p .take-from .ensures) ∙ f .found2 .given .1))
+    let k = f .found2 .given .0 .0 in
+    meets (Answer.Refused k) (s .args .line) (s .args .book .now) (step s) (c .refuse3 .result)
+    (on e ∙ take-found nextLane (state s) (s .args .lane) (s .args .count) (phaseAt (s .args .line) (s .args .lane)) (Taken.Refused k) (decided p (Taken.Refused k) (f .found2 .given .1)))
     (c .refuse3 .ensures)
 
 pub take-spec : {M : Type 1} → statement M

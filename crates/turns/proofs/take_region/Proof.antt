@@ -2,9 +2,6 @@
 use borrow.Author.Needs.{needs}
 use Rattle.turns.proofs.take_region.Statement.{statement}
 use Rattle.turns.proofs.take_region.Tie as tie
-use Rattle.turns.proofs.take_region.Reads as reads
-use Rattle.turns.proofs.take_region.Lts as lts
-use Rattle.turns.proofs.release.Reads as release-reads
 
 add-t11 : tie.Need-add-t11
 add-t11 c = search needs

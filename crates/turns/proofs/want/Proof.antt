@@ -1,23 +1,21 @@
 -- `want` meets its contract.
-use Prim.Native.Nat.{ℕ, _≤_, _<_}
-use mathlib.Core.Path.{_≡_, refl, sym, ap, _∙_}
-use mathlib.Core.Bool.{true, false}
+use Prim.Native.Nat.{ℕ, _<_}
+use mathlib.Core.Path.{_≡_, sym, _∙_}
+use mathlib.Core.Bool.{false}
 use native.Mathlib.Omega.{arith}
-use Rattle.line.specs.Line.{mostLanes, phaseAt}
+use Rattle.line.specs.Line.{isGathered, mostLanes}
 use Rattle.waitlist.specs.NextLane.{nextLane}
 use Rattle.event.specs.declared.Event.{Event}
 use Rattle.steps.specs.declared.Answer.{Answer}
 use Rattle.steps.specs.State.{Result, State}
-use Rattle.steps.specs.Step.{callEvent}
+use Rattle.steps.specs.Step.{callEvent, refuse}
 use Rattle.steps.specs.Meets.{Meets, stateOf}
 use lib.Dec.{ltb}
 use borrow.Author.Tests.{le-ltb, lt-ltb, not-false, not-true}
 use Rattle.lists.specs.Lists.{any}
-use Rattle.line.specs.Line.{isGathered, isIdle}
 use Rattle.line.specs.Line as line
 use Rattle.steps.specs.declared.Outcome.{Outcome}
 use Rattle.steps.specs.Effects.{purposeOf, wantStep}
-use Rattle.steps.specs.Step.{refuse}
 use Rattle.turns.specs.Outcomes.{outcome}
 use Rattle.steps.proofs.Chains.{want-chain}
 use Rattle.turns.proofs.Exits.{LaneCall, at-lane, lane-few, meets, meets-4, meets-8}
@@ -25,14 +23,8 @@ use Rattle.turns.proofs.Decided.{want-9, want-12, want-13, want-on, wan
 use borrow.Author.Needs.{needs}
 use Rattle.turns.proofs.want.Statement.{statement}
 use Rattle.turns.proofs.want.Tie as tie
-use Rattle.turns.proofs.want.Reads as reads
-use Rattle.turns.proofs.want.Lts as lts
-use Rattle.turns.proofs.any_gathered.Reads as any-gathered-reads
-use Rattle.turns.proofs.phases.is_idle.Reads as is-idle-reads
-use Rattle.turns.proofs.phases.purpose_of.Reads as purpose-of-reads
-use Rattle.turns.proofs.raise.Reads as raise-reads
-use Rattle.turns.proofs.refuse.Reads as refuse-reads
 
+-- the step that the contract names, and what is left of it past the tests of 4 and 8
 abbrev state : tie.Start → State
 state s = stateOf (s .args .line) (s .args .book .now)
 
@@ -48,6 +40,7 @@ call s = record { ok = s .pre; chain = want-chain nextLane (state s) (s .args .l
 abbrev start : tie.Else2 → tie.Start
 start c = c .before .before .before
 
+-- past these tests: the step goes on, and the lane is one of the arrays
 on : (c : tie.Else2) → step (start c) ≡ rest (start c)
 on c = at-lane (call (start c)) (c .before .if1 .left) (c .if2 .left)
 
@@ -57,6 +50,7 @@ a-lane c = omega (arith, lane-few (call (start c)), c .if2 .left)
 refused : (k : ℕ) (c : tie.Else2) (r : Outcome) → rest (start c) ≡ refuse k (state (start c)) → r ≡ outcome (Answer.Refused k) (start c .args .line) → Meets (step (start c)) r (start c .args .book .now)
 refused k c r e f = meets (Answer.Refused k) (start c .args .line) (start c .args .book .now) (step (start c)) r (on c ∙ e) f
 
+-- what the later tests that were passed say
 small : (c : tie.Else3) → ltb 2 (start (c .before) .args .purpose) ≡ false
 small c = le-ltb _ _ (c .if3 .left)
 
@@ -79,7 +73,8 @@ refuse-requires-3 : tie.Need-refuse-requires-3
 refuse-requires-3 c κs = search needs
 
 returns-3 : tie.Need-returns-3
-returns-3 c = let e = c .before .before in
+returns-3 c =
+    let e = c .before .before in
     refused 9 e (c .refuse3 .result) (want-9 (state (start e)) (start e .args .lane) (start e .args .purpose) (lt-ltb _ _ (c .before .if3 .taken))) (c .refuse3 .ensures)
 
 any-gathered-requires : tie.Need-any-gathered-requires
@@ -89,7 +84,8 @@ refuse-requires-4 : tie.Need-refuse-requires-4
 refuse-requires-4 c κs = search needs
 
 returns-4 : tie.Need-returns-4
-returns-4 c = let g = c .before .before in
+returns-4 c =
+    let g = c .before .before in
     let f = g .before .before in
     let e = f .before in
     refused 12 e (c .refuse4 .result) (want-12 (state (start e)) (start e .args .lane) (start e .args .purpose) (small f) (sym (g .any-gathered .ensures) ∙ c .before .if4 .taken)) (c .refuse4 .ensures)
@@ -107,7 +103,8 @@ refuse-requires-5 : tie.Need-refuse-requires-5
 refuse-requires-5 c κs = search needs
 
 returns-5 : tie.Need-returns-5
-returns-5 c = let d = c .before .before in
+returns-5 c =
+    let d = c .before .before in
     let g = d .before .before in
     let f = g .before .before .before in
     let e = f .before in
@@ -120,7 +117,8 @@ raise-requires : tie.Need-raise-requires
 raise-requires c κs = a-lane (c .before .before .before .before .before .before .before .before)
 
 returns-6 : tie.Need-returns-6
-returns-6 c = let h = c .before .before in
+returns-6 c =
+    let h = c .before .before in
     let d = h .before in
     let g = d .before .before in
     let f = g .before .before .before in

@@ -1,14 +1,9 @@
 -- `holds_whole` meets its contract.
-use mathlib.Core.Path.{_≡_, sym}
-use mathlib.Core.Bool.{Bool, true, false, _&&_}
-use Rattle.line.specs.Line.{holdsWhole, isHolding, isWholeBook, purposeIn}
+use mathlib.Core.Bool.{true, false}
 use Rattle.turns.proofs.Arms.{not-holding}
 use borrow.Author.Needs.{needs}
 use Rattle.turns.proofs.phases.holds_whole.Statement.{statement}
 use Rattle.turns.proofs.phases.holds_whole.Tie as tie
-use Rattle.turns.proofs.phases.holds_whole.Reads as reads
-use Rattle.turns.proofs.phases.holds_whole.Lts as lts
-use Rattle.turns.proofs.phases.is_whole_book.Reads as is-whole-book-reads
 
 enum-known-phase : tie.Need-enum-known-phase
 enum-known-phase c = search needs
@@ -20,7 +15,8 @@ returns : tie.Need-returns
 returns c = search needs
 
 returns-2 : tie.Need-returns-2
-returns-2 c = let x = c .before .args .phase in
+returns-2 c =
+    let x = c .before .args .phase in
     rw (not-holding false true x (c .match .keys2))
 
 pub holds-whole-spec : {M : Type 1} → statement M

@@ -1,13 +1,11 @@
 -- `purpose_of` meets its contract: a number that is neither 0 nor 1 is that of the whole book.
 use Prim.Native.Nat.{ℕ, zero, suc}
-use mathlib.Core.Path.{_≡_, refl, sym}
+use mathlib.Core.Path.{_≡_, refl}
 use Rattle.line.specs.declared.Purpose.{Purpose}
 use Rattle.steps.specs.Effects.{purposeOf}
 use borrow.Author.Needs.{needs}
 use Rattle.turns.proofs.phases.purpose_of.Statement.{statement}
 use Rattle.turns.proofs.phases.purpose_of.Tie as tie
-use Rattle.turns.proofs.phases.purpose_of.Reads as reads
-use Rattle.turns.proofs.phases.purpose_of.Lts as lts
 
 whole-book : (k : ℕ) → (k ≡ 0 → ⊥) → (k ≡ 1 → ⊥) → Purpose.WholeBook ≡ purposeOf k
 whole-book zero a b = absurd (a refl)

@@ -1,13 +1,10 @@
 -- `receive_from` meets its contract.
-use mathlib.Core.Path.{_≡_, sym}
-use Rattle.line.specs.Line.{placeIn, purposeIn}
+use mathlib.Core.Path.{sym}
 use Rattle.turns.specs.declared.phases.Received.{Received}
 use Rattle.turns.proofs.Arms.{not-woken}
 use borrow.Author.Needs.{needs}
 use Rattle.turns.proofs.phases.receive_from.Statement.{statement}
 use Rattle.turns.proofs.phases.receive_from.Tie as tie
-use Rattle.turns.proofs.phases.receive_from.Reads as reads
-use Rattle.turns.proofs.phases.receive_from.Lts as lts
 
 enum-known-phase : tie.Need-enum-known-phase
 enum-known-phase c = search needs

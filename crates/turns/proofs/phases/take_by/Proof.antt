@@ -2,10 +2,6 @@
 use borrow.Author.Needs.{needs}
 use Rattle.turns.proofs.phases.take_by.Statement.{statement}
 use Rattle.turns.proofs.phases.take_by.Tie as tie
-use Rattle.turns.proofs.phases.take_by.Reads as reads
-use Rattle.turns.proofs.phases.take_by.Lts as lts
-use Rattle.turns.proofs.phases.take_to_read.Reads as take-to-read-reads
-use Rattle.turns.proofs.phases.take_to_write.Reads as take-to-write-reads
 
 enum-told : tie.Need-enum-told
 enum-told c = search needs

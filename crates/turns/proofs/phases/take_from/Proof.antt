@@ -1,13 +1,10 @@
 -- `take_from` meets its contract.
-use mathlib.Core.Path.{_≡_, sym}
+use mathlib.Core.Path.{sym}
 use Rattle.turns.specs.declared.phases.Taken.{Taken}
 use Rattle.turns.proofs.Arms.{not-holding}
 use borrow.Author.Needs.{needs}
 use Rattle.turns.proofs.phases.take_from.Statement.{statement}
 use Rattle.turns.proofs.phases.take_from.Tie as tie
-use Rattle.turns.proofs.phases.take_from.Reads as reads
-use Rattle.turns.proofs.phases.take_from.Lts as lts
-use Rattle.turns.proofs.phases.take_by.Reads as take-by-reads
 
 enum-known-phase : tie.Need-enum-known-phase
 enum-known-phase c = search needs

@@ -3,9 +3,6 @@ use borrow.Author.Tests.{lt-ltb, le-ltb}
 use borrow.Author.Needs.{needs}
 use Rattle.turns.proofs.phases.take_to_read.Statement.{statement}
 use Rattle.turns.proofs.phases.take_to_read.Tie as tie
-use Rattle.turns.proofs.phases.take_to_read.Reads as reads
-use Rattle.turns.proofs.phases.take_to_read.Lts as lts
-use Rattle.turns.proofs.phases.to_read.Reads as to-read-reads
 
 cast-if1 : tie.Need-cast-if1
 cast-if1 c = search needs

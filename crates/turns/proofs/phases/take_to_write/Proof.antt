@@ -2,10 +2,6 @@
 use borrow.Author.Needs.{needs}
 use Rattle.turns.proofs.phases.take_to_write.Statement.{statement}
 use Rattle.turns.proofs.phases.take_to_write.Tie as tie
-use Rattle.turns.proofs.phases.take_to_write.Reads as reads
-use Rattle.turns.proofs.phases.take_to_write.Lts as lts
-use Rattle.turns.proofs.phases.to_write.Reads as to-write-reads
-use Rattle.view.proofs.View.fits.Reads as fits-reads
 
 fits-requires : tie.Need-fits-requires
 fits-requires c κs = search needs

@@ -2,8 +2,6 @@
 use borrow.Author.Tests.{eq-eqb, ne-eqb}
 use Rattle.turns.proofs.phases.to_read.Statement.{statement}
 use Rattle.turns.proofs.phases.to_read.Tie as tie
-use Rattle.turns.proofs.phases.to_read.Reads as reads
-use Rattle.turns.proofs.phases.to_read.Lts as lts
 
 returns : tie.Need-returns
 returns c = rw (eq-eqb _ _ (c .if1 .taken))

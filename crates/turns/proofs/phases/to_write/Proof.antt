@@ -2,8 +2,6 @@
 use borrow.Author.Tests.{eq-eqb, ne-eqb}
 use Rattle.turns.proofs.phases.to_write.Statement.{statement}
 use Rattle.turns.proofs.phases.to_write.Tie as tie
-use Rattle.turns.proofs.phases.to_write.Reads as reads
-use Rattle.turns.proofs.phases.to_write.Lts as lts
 
 returns : tie.Need-returns
 returns c = rw (eq-eqb _ _ (c .if1 .taken))

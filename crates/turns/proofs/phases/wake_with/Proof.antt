@@ -1,11 +1,9 @@
 -- `wake_with` meets its contract: a lane that does not wait stays as it is.
-use mathlib.Core.Path.{_≡_, sym}
+use mathlib.Core.Path.{sym}
 use Rattle.turns.proofs.Arms.{not-waiting}
 use borrow.Author.Needs.{needs}
 use Rattle.turns.proofs.phases.wake_with.Statement.{statement}
 use Rattle.turns.proofs.phases.wake_with.Tie as tie
-use Rattle.turns.proofs.phases.wake_with.Reads as reads
-use Rattle.turns.proofs.phases.wake_with.Lts as lts
 
 enum-known-phase : tie.Need-enum-known-phase
 enum-known-phase c = search needs
