@@ -1,4 +1,4 @@
--- The laws of the search for the next lane, and document 01 edges of it.
+-- The laws of the search for the next lane, and the edges of document 01 on it.
 pub mod Laws
 pub mod Nearest
 pub mod Edges

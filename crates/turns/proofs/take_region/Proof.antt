@@ -1,0 +1,16 @@
+-- `take_region` meets its contract.
+use borrow.Author.Needs.{needs}
+use Rattle.turns.proofs.take_region.Statement.{statement}
+use Rattle.turns.proofs.take_region.Tie as tie
+
+add-t11 : tie.Need-add-t11
+add-t11 c = search needs
+
+release-requires : tie.Need-release-requires
+release-requires c κs = search needs
+
+returns : tie.Need-returns
+returns c = rw (c .before .release .ensures .0, c .before .release .ensures .1)
+
+pub take-region-spec : {M : Type 1} → statement M
+take-region-spec = tie.close (tie.spec add-t11 release-requires returns)
