@@ -1,6 +1,6 @@
 -- On a sound line the first tests of a call are 4 and, where it names a lane, 8: what the step is where each applies, and past them.
 use Prim.Native.Nat.{ℕ, _≤_, _<_}
-use mathlib.Core.Path.{_≡_, refl, sym, ap, _∙_}
+use mathlib.Core.Path.{_≡_, refl, sym, ap, _∙_, subst}
 use mathlib.Core.Bool.{Bool, true, false, cond, not}
 use mathlib.Core.List.{List}
 use native.Mathlib.Omega.{arith}
@@ -14,6 +14,10 @@ use Rattle.steps.specs.Step.{refuse}
 use Rattle.steps.specs.declared.Outcome.{Outcome}
 use Rattle.steps.proofs.Chains.{atLane, whenOpen, whenSound}
 use Rattle.refusals.specs.Refused.{refused}
+
+-- a step that is known as another one
+pub meets-as : {s t : Result} {o : Outcome} {bytes : List ℕ} → s ≡ t → Meets t o bytes → Meets s o bytes
+meets-as {s} {t} {o} {bytes} e m = subst (λ (r : Result). Meets r o bytes) (sym e) m
 
 module _ (l : Line) (book : List ℕ) where
   pub meets-refused : (k : ℕ) {step : Result} {o : Outcome} → step ≡ refuse k (stateOf l book) → o ≡ refused l k → Meets step o book
@@ -46,3 +50,16 @@ module _ (l : Line) (book : List ℕ) where
 
     pub at-lane : (i : ℕ) (rest : Result) → i < l .lanes → atLane (stateOf l book) i rest ≡ rest
     at-lane i rest h = rw (ok, ne-eqb (l .lanes) 0 (λ z. omega arith), lt-leb (l .lanes) i h)
+
+    -- ---- the refusals of a call whose step is a chain of tests
+    module _ {step : Result} {o : Outcome} where
+      pub refused-4 : (rest : Result) → step ≡ whenOpen (stateOf l book) rest → l .lanes ≡ 0 → o ≡ refused l 4 → Meets step o book
+      refused-4 rest chain z f = meets-refused 4 (chain ∙ not-open rest z) f
+
+      pub refused-8 : (i : ℕ) (rest : Result) → step ≡ atLane (stateOf l book) i rest → (l .lanes ≡ 0 → ⊥) → l .lanes ≤ i → o ≡ refused l 8 → Meets step o book
+      refused-8 i rest chain n h f = meets-refused 8 (chain ∙ no-lane i rest n h) f
+
+      -- the test with number k, which comes right after those of the lane
+      pub refused-at : (k i : ℕ) (b : Bool) (rest : Result) → step ≡ atLane (stateOf l book) i (cond (not b) (refuse k (stateOf l book)) rest) → i < l .lanes → b ≡ false → o ≡ refused l k
+          → Meets step o book
+      refused-at k i b rest chain h e f = meets-refused k (chain ∙ at-lane i _ h ∙ fails k rest e) f
