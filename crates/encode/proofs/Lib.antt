@@ -1,3 +1,2 @@
--- The laws by which fields are stored one after the other.
-pub mod Puts
-pub mod Unsigned
+-- The laws by which an event is written.
+pub mod Answers

@@ -1,2 +1,2 @@
--- The definitions that the writers of fields are held to.
-pub mod Put
+-- The definitions that the parts of writing an event are held to.
+pub mod Written

@@ -2,7 +2,7 @@
 use mir.Facts.{toZ-ofZ}
 use mir.Syntax.{w32}
 use mir.Val.{SFits}
-use Rattle.encode.specs.Put.{withEvent}
+use Rattle.encode.specs.Written.{withEvent}
 use borrow.Author.Needs.{needs}
 use Rattle.encode.proofs.put_event.Statement.{statement}
 use Rattle.encode.proofs.put_event.Tie as tie

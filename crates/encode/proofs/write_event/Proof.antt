@@ -1,6 +1,6 @@
 -- `encode::write_event` meets its contract: 2, then 3, then the event's bytes.
 use mathlib.Core.Path.{sym, _∙_}
-use Rattle.encode.proofs.Puts.{refused-2, refused-3, written}
+use Rattle.encode.proofs.Answers.{refused-2, refused-3, written}
 use borrow.Author.Needs.{needs}
 use Rattle.encode.proofs.write_event.Statement.{statement}
 use Rattle.encode.proofs.write_event.Tie as tie

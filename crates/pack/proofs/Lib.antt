@@ -1,0 +1,3 @@
+-- The laws by which fields are stored one after the other.
+pub mod Puts
+pub mod Unsigned

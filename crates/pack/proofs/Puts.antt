@@ -1,0 +1,73 @@
+-- Fields stored one after the other are the fields stored together.
+use Prim.Native.Nat.{ℕ, zero, suc, _+_, _-_, _*_, _/_, _%_, _^_, _≤_, _<_}
+use mathlib.Core.Path.{_≡_, refl, sym, _∙_, ap}
+use mathlib.Core.List.{List, [], _∷_, _++_, append-assoc, append-nil}
+use native.Mathlib.Nat.{add-zero, div-one}
+use native.Mathlib.Numerals.{add-one}
+use native.Mathlib.Omega.{arith}
+use lib.ListN.{length, set}
+use lib.Seq.{sets}
+use Rattle.event.specs.BigEndian.{bigEndian}
+use Rattle.event.specs.Event.{bytesOf}
+use Rattle.event.proofs.Fields.{bytes-length, total}
+use Rattle.event.proofs.Numbers.{big-endian-split}
+use Rattle.pack.specs.Put.{putAt}
+
+sets-append : (xs ys l : List ℕ) (i : ℕ) → sets (sets l i xs) (i + length xs) ys ≡ sets l i (xs ++ ys)
+sets-append [] ys l i = rw (add-zero i)
+sets-append (x ∷ xs) ys l i =
+    let e : i + suc (length xs) ≡ suc i + length xs = omega arith in
+    rw e (sets-append xs ys (set l i x) (suc i))
+
+bytes-append : (ns vs ms ws : List ℕ) → length ns ≡ length vs → bytesOf (ns ++ ms) (vs ++ ws) ≡ bytesOf ns vs ++ bytesOf ms ws
+unfolding bytesOf
+bytes-append [] [] ms ws h = refl
+bytes-append [] (v ∷ vs) ms ws h = absurd (omega arith)
+bytes-append (n ∷ ns) [] ms ws h = absurd (omega arith)
+bytes-append (n ∷ ns) (v ∷ vs) ms ws h =
+    rw (bytes-append ns vs ms ws (omega arith), append-assoc (bigEndian n v) (bytesOf ns vs) (bytesOf ms ws))
+
+-- what a writer of fields left
+pub record Put (lengths fields before : List ℕ) (at : ℕ) (after : List ℕ) : Type 0 where
+  pub left : after ≡ putAt lengths fields before at
+
+pub put : {lengths fields before after : List ℕ} {at : ℕ} → after ≡ putAt lengths fields before at → Put lengths fields before at after
+put e = record { left = e }
+
+put-both : (ns vs ms ws before : List ℕ) (at to : ℕ) → length ns ≡ length vs → at + total ns ≡ to
+    → putAt ms ws (putAt ns vs before at) to ≡ putAt (ns ++ ms) (vs ++ ws) before at
+unfolding putAt
+put-both ns vs ms ws before at to h e =
+    let end : at + length (bytesOf ns vs) ≡ to = ap (λ (n : ℕ). at + n) (bytes-length ns vs h) ∙ e in
+    rw (← end, bytes-append ns vs ms ws h) (sets-append (bytesOf ns vs) (bytesOf ms ws) before at)
+
+-- fields stored from where those before them end
+pub and-then : {ns vs ms ws before middle after : List ℕ} {at to : ℕ} → Put ns vs before at middle → Put ms ws middle to after
+    → length ns ≡ length vs
+    → at + total ns ≡ to
+    → Put (ns ++ ms) (vs ++ ws) before at after
+and-then {ns} {vs} {ms} {ws} {before} {middle} {after} {at} {to} a b h e =
+    record { left = b .left ∙ rw (a .left) (put-both ns vs ms ws before at to h e) }
+
+-- ---- one number
+pub one-byte : (buffer : List ℕ) (at v : ℕ) → set buffer at v ≡ putAt (1 ∷ []) (v ∷ []) buffer at
+unfolding putAt bytesOf bigEndian
+one-byte buffer at v = rw (div-one v)
+
+pub two-bytes : (buffer : List ℕ) (at v : ℕ) → set (set buffer at (v / 256)) (at + 1) (v % 256) ≡ putAt (2 ∷ []) (v ∷ []) buffer at
+unfolding putAt bytesOf bigEndian
+two-bytes buffer at v = rw (div-one (v % 256), add-one at)
+
+halves-together : (before : List ℕ) (at n v : ℕ) → v < 256 ^ (n + n)
+    → putAt (n ∷ n ∷ []) (v / 256 ^ n ∷ v % 256 ^ n ∷ []) before at ≡ putAt ((n + n) ∷ []) (v ∷ []) before at
+unfolding putAt bytesOf
+halves-together before at n v h =
+    rw (big-endian-split n n v h, append-nil (bigEndian n (v % 256 ^ n)), append-nil (bigEndian n (v / 256 ^ n) ++ bigEndian n (v % 256 ^ n)))
+
+-- a number of n + n bytes is stored as its two halves
+pub two-halves : {before middle after : List ℕ} {at : ℕ} (n v : ℕ) → v < 256 ^ (n + n) → Put (n ∷ []) (v / 256 ^ n ∷ []) before at middle
+    → Put (n ∷ []) (v % 256 ^ n ∷ []) middle (at + n) after
+    → after ≡ putAt ((n + n) ∷ []) (v ∷ []) before at
+two-halves {before} {middle} {after} {at} n v h a b =
+    let end : at + total (n ∷ []) ≡ at + n = omega arith in
+    and-then a b refl end .left ∙ halves-together before at n v h

@@ -1,0 +1,2 @@
+-- The definition that the writers of fields are held to.
+pub mod Put
