@@ -1,6 +1,6 @@
 -- The laws on lists.
 pub mod Tests
 pub mod Counts
-pub mod Laws
+pub mod Parts
 pub mod Loops
 pub mod Maps

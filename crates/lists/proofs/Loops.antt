@@ -7,7 +7,7 @@ use native.Mathlib.Nat.{not-suc-le-zero, le-of-suc-le-suc}
 use lib.ListN.{drop, getD, length}
 use borrow.Author.Tests.{eq-eqb, ne-eqb}
 use Rattle.lists.specs.Lists.{all, bit, count, pairwise, sameNumbers, sumOf}
-use Rattle.lists.proofs.Laws.{drop-more}
+use Rattle.lists.proofs.Parts.{drop-more}
 
 pub drop-end : {A : Type 0} (l : List A) (i : ℕ) → length l ≤ i → drop i l ≡ []
 drop-end [] zero h = refl

@@ -8,16 +8,7 @@ use lib.ListN.{drop}
 use lib.Dec.{eqb, ltb}
 use borrow.Author.Tests.{eqb-true, lt-ltb}
 use Rattle.lists.specs.Lists.{all, any, bit, count, sameNumbers}
-use Rattle.lists.proofs.Laws.{and-both, and-left, and-right, true-false}
-
-pub same-equal : (a b : List ℕ) → sameNumbers a b ≡ true → a ≡ b
-same-equal [] [] e = refl
-same-equal [] (y ∷ ys) e = true-false (sym e)
-same-equal (x ∷ xs) [] e = true-false (sym e)
-same-equal (x ∷ xs) (y ∷ ys) e =
-    let head = eqb-true x y (and-left (eqb x y) (sameNumbers xs ys) e) in
-    let tail = same-equal xs ys (and-right (eqb x y) (sameNumbers xs ys) e) in
-    cc
+use Rattle.lists.proofs.Tests.{and-both, and-left, and-right, clash}
 
 or-positive : (b : Bool) (rest : Bool) (n : ℕ) → rest ≡ ltb 0 n → (b || rest) ≡ ltb 0 (bit b + n)
 or-positive true rest n e = sym (lt-ltb 0 (1 + n) (omega arith))
@@ -30,12 +21,6 @@ module _ {A : Type 0} where
   pub all-true : (p : A → Bool) → ((x : A) → p x ≡ true) → (l : List A) → all p l ≡ true
   all-true p f [] = refl
   all-true p f (x ∷ xs) = and-both (p x) (all p xs) (f x) (all-true p f xs)
-
-  -- a test that passes where another does
-  pub all-weaker : (p q : A → Bool) → ((x : A) → p x ≡ true → q x ≡ true) → (l : List A) → all p l ≡ true → all q l ≡ true
-  all-weaker p q f [] e = refl
-  all-weaker p q f (x ∷ xs) e =
-      and-both (q x) (all q xs) (f x (and-left (p x) (all p xs) e)) (all-weaker p q f xs (and-right (p x) (all p xs) e))
 
   -- some element passes where the count is not 0
   pub any-count : (p : A → Bool) (l : List A) → any p l ≡ ltb 0 (count p l)

@@ -3,7 +3,7 @@ use mathlib.Core.List.{[], _∷_}
 use denote.Laws.{Is}
 use denote.Struct.Declared.{row}
 use denote.Struct.Laws.{val}
-use Rattle.lists.proofs.Laws.{length-unmapped}
+use Rattle.lists.proofs.Parts.{length-unmapped}
 use Rattle.line.specs.declared.Line.{Line}
 use Rattle.line.specs.Line.{Shaped}
 use Rattle.line.proofs.Line.{the-type}

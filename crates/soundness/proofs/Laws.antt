@@ -9,7 +9,8 @@ use lib.ListN.{drop, getD, length, length-map, take, List·getD-map}
 use lib.Dec.{eqb, ltb}
 use Rattle.lists.specs.Lists.{all, any, count, sameNumbers}
 use Rattle.lists.proofs.Loops.{same-end, same-more, same-stop}
-use Rattle.lists.proofs.Maps.{all-map, all-weaker, any-count, any-map, drop-map, same-equal}
+use Rattle.lists.proofs.Counts.{all-mono, same-is}
+use Rattle.lists.proofs.Maps.{all-map, any-count, any-map, drop-map}
 use Rattle.view.specs.View.{block, inOrder, isPlain, isPlainBlocks, isUnused, viewOk}
 use Rattle.view.specs.declared.Block.{Block}
 use Rattle.view.specs.declared.View.{View}
@@ -59,7 +60,7 @@ idle-flag (Phase.Gathered n) e = refl
 
 module _ (l : Line) (ok : flagsOk l ≡ true) where
   same : l .flag ≡ map (on flagFor) (l .lane)
-  same = same-equal (l .flag) (map (on flagFor) (l .lane)) ok
+  same = same-is (l .flag) (map (on flagFor) (l .lane)) ok
 
   -- a flag is up where a phase has one
   pub raised-any : any (eqb 1) (l .flag) ≡ ltb 0 (count (on isFlagged) (l .lane))
@@ -68,7 +69,7 @@ module _ (l : Line) (ok : flagsOk l ≡ true) where
   idle-past : all (on isIdle) (drop (l .lanes) (l .lane)) ≡ true → all (eqb 0) (drop (l .lanes) (l .flag)) ≡ true
   idle-past idle =
       rw (same, drop-map (on flagFor) (l .lanes) (l .lane), all-map (on flagFor) (eqb 0) (drop (l .lanes) (l .lane)))
-      (all-weaker (on isIdle) (λ x. eqb 0 (flagFor (x .phase))) (λ x e. idle-flag (x .phase) e) (drop (l .lanes) (l .lane)) idle)
+      (all-mono (on isIdle) (λ x. eqb 0 (flagFor (x .phase))) (λ x e. idle-flag (x .phase) e) (drop (l .lanes) (l .lane)) idle)
 
   -- past N it is enough that the lanes are idle
   pub past-idle : all (on isIdle) (drop (l .lanes) (l .lane)) ≡ pastOk l

@@ -5,7 +5,7 @@ use mathlib.Core.Bool.{Bool, true, false}
 use mathlib.Core.List.{List}
 use lib.ListN.{drop, getD, length}
 use Rattle.lists.specs.Lists.{any}
-use Rattle.lists.proofs.Laws.{drop-more}
+use Rattle.lists.proofs.Parts.{drop-more}
 use Rattle.lists.proofs.Loops.{drop-end}
 
 module _ {A : Type 0} (p : A → Bool) (l : List A) (i : ℕ) (d : A) where

@@ -10,7 +10,8 @@ use lib.ListN.{length, take, drop}
 use lib.Dec.{leb, eqb}
 use borrow.Author.Tests.{leb-true, eqb-true, le-leb, lt-ltb, le-ltb}
 use Rattle.lists.specs.Lists.{all, sumOf}
-use Rattle.lists.proofs.Laws.{and-left, and-right, every-at, below-or-not, true-false}
+use Rattle.lists.proofs.Tests.{and-left, and-right, clash, every-nth}
+use Rattle.lists.proofs.Parts.{below-or-not}
 use Rattle.view.specs.declared.Block.{Block}
 use Rattle.view.specs.declared.Place.{Place}
 use Rattle.view.specs.declared.View.{View}
@@ -32,9 +33,9 @@ unfolding inOrder
 front extent end b bs h =
     let tests = leb 1 (b .length) ∷ leb end (b .start) ∷ inOrder extent (b .start + b .length) bs ∷ [] in
     record {
-      some = leb-true 1 (b .length) (every-at tests 0 h);
-      after = leb-true end (b .start) (every-at tests 1 h);
-      rest = every-at tests 2 h;
+      some = leb-true 1 (b .length) (every-nth tests 0 h);
+      after = leb-true end (b .start) (every-nth tests 1 h);
+      rest = every-nth tests 2 h;
     }
 
 -- blocks in order end within the extent, and hold no more records than lie before it
@@ -104,14 +105,14 @@ viewed capacity v h len =
     ∷ inOrder (v .extent) 0 (usedBlocks v)
     ∷ all isUnused (unusedBlocks v)
     ∷ [] in
-    let order = every-at tests 5 h in
-    let used = leb-true 1 (v .used) (every-at tests 3 h) in
+    let order = every-nth tests 5 h in
+    let used = leb-true 1 (v .used) (every-nth tests 3 h) in
     let end = order-end (v .extent) 0 (usedBlocks v) order in
     record {
-      low = leb-true (v .displacement) capacity (every-at tests 0 h);
+      low = leb-true (v .displacement) capacity (every-nth tests 0 h);
       some = some-shown (v .extent) 0 (v .used) (v .block) used (omega arith) order;
       within = omega (arith, end);
-      narrow = leb-true (v .extent) 1024 (every-at tests 2 h);
+      narrow = leb-true (v .extent) 1024 (every-nth tests 2 h);
       order = order;
     }
 
@@ -189,7 +190,7 @@ fits-last v capacity k (suc t) h = let e : suc t - 1 ≡ t = omega arith in rw e
 -- ---- the plain view meets the rules at every capacity
 plain-blocks : (bs : List Block) → isPlainBlocks bs ≡ true → (inOrder 1 0 (take 1 bs) ≡ true) × (all isUnused (drop 1 bs) ≡ true)
 unfolding inOrder
-plain-blocks [] e = true-false (sym e)
+plain-blocks [] e = clash (sym e)
 plain-blocks (b ∷ bs) e =
     let first = eqb (b .start) 0 && eqb (b .length) 1 in
     let both = and-left first (all isUnused bs) e in
@@ -201,10 +202,10 @@ pub isPlain-ok : (capacity : ℕ) (v : View) → isPlain v ≡ true → viewOk c
 unfolding viewOk
 isPlain-ok capacity v h =
     let tests = eqb (v .displacement) 0 ∷ eqb (v .extent) 1 ∷ eqb (v .used) 1 ∷ isPlainBlocks (v .block) ∷ [] in
-    let displacement = eqb-true (v .displacement) 0 (every-at tests 0 h) in
-    let extent = eqb-true (v .extent) 1 (every-at tests 1 h) in
-    let used = eqb-true (v .used) 1 (every-at tests 2 h) in
-    let blocks = plain-blocks (v .block) (every-at tests 3 h) in
+    let displacement = eqb-true (v .displacement) 0 (every-nth tests 0 h) in
+    let extent = eqb-true (v .extent) 1 (every-nth tests 1 h) in
+    let used = eqb-true (v .used) 1 (every-nth tests 2 h) in
+    let blocks = plain-blocks (v .block) (every-nth tests 3 h) in
     let low : 0 ≤ capacity = omega arith in
     rw (displacement, extent, used, blocks .0, blocks .1, le-leb 0 capacity low)
 

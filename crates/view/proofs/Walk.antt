@@ -11,7 +11,7 @@ use lib.Seq.{take-all}
 use lib.Dec.{leb}
 use borrow.Author.Tests.{le-leb, lt-leb, eq-eqb, ne-eqb, lt-ltb, le-ltb}
 use Rattle.lists.specs.Lists.{all}
-use Rattle.lists.proofs.Laws.{drop-more, drop-take-more, below-or-not}
+use Rattle.lists.proofs.Parts.{below-or-not, drop-more, drop-take-more}
 use Rattle.view.proofs.Laws.{lengths}
 use Rattle.view.specs.declared.Block.{Block}
 use Rattle.view.specs.declared.View.{View}

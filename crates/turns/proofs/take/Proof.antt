@@ -9,7 +9,7 @@ use Rattle.steps.specs.declared.Answer.{Answer}
 use Rattle.steps.specs.State.{Result, State}
 use Rattle.steps.specs.Step.{callEvent}
 use Rattle.steps.specs.Meets.{stateOf}
-use Rattle.lists.proofs.Laws.{length-unmapped}
+use Rattle.lists.proofs.Parts.{length-unmapped}
 use Rattle.steps.specs.Effects.{nextOf, released}
 use Rattle.steps.proofs.Chains.{take-chain}
 use Rattle.turns.specs.Outcomes.{leaving}

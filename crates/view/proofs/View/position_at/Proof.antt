@@ -3,7 +3,7 @@ use Prim.Native.Nat.{_*_, _/_, _≤_}
 use mathlib.Core.Path.{_≡_, sym, _∙_}
 use native.Mathlib.Omega.{arith}
 use lib.ListN.{length}
-use Rattle.lists.proofs.Laws.{length-unmapped}
+use Rattle.lists.proofs.Parts.{length-unmapped}
 use Rattle.view.specs.View.{positionOf, shown}
 use Rattle.view.proofs.Walk.{take-most, position-none, tile-most}
 use borrow.Author.Needs.{needs}

@@ -2,7 +2,7 @@
 use Prim.Native.Nat.{ℕ}
 use mathlib.Core.Path.{_≡_, ap, _∙_}
 use lib.ListN.{length, take}
-use Rattle.lists.proofs.Laws.{length-unmapped}
+use Rattle.lists.proofs.Parts.{length-unmapped}
 use Rattle.view.proofs.Laws.{lengths}
 use Rattle.view.proofs.Walk.{take-most}
 use borrow.Author.Needs.{needs}

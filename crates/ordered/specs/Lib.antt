@@ -1,0 +1,1 @@
+-- The definitions of this crate's contracts are those of `steps`.

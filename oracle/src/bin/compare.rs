@@ -1,0 +1,122 @@
+//! `compare A B SHEETS [--seed S] [--skip K] [--any]`: two output streams held
+//! against each other, with the sheets they answer.
+
+use oracle_lib::cover::Cover;
+use oracle_lib::stream::{open_source, read_item};
+use std::io;
+use std::process::ExitCode;
+
+struct Wish {
+    files: Vec<String>,
+    seed: Option<String>,
+    skip: u64,
+    any: bool,
+}
+
+fn wish() -> Option<Wish> {
+    let mut wish = Wish { files: Vec::new(), seed: None, skip: 0, any: false };
+    let mut words = std::env::args().skip(1);
+    while let Some(word) = words.next() {
+        match word.as_str() {
+            "--seed" => wish.seed = Some(words.next()?),
+            "--skip" => wish.skip = words.next()?.parse().ok()?,
+            "--any" => wish.any = true,
+            _ => wish.files.push(word),
+        }
+    }
+    let inputs = wish.files.iter().filter(|file| *file == "-").count();
+    (wish.files.len() == 3 && inputs <= 1).then_some(wish)
+}
+
+/// The sheet's number and the arguments that make it again.
+fn which(wish: &Wish, k: u64) -> String {
+    let number = wish.skip + k;
+    match &wish.seed {
+        Some(seed) => format!("sheet {number} (sheets {seed} 1 --skip {number})"),
+        None => format!("sheet {number} (of the seed you gave: sheets SEED 1 --skip {number})"),
+    }
+}
+
+/// The first line that differs, as both have it.
+fn first_difference(a: &[u8], b: &[u8]) -> String {
+    let mut lines_a = a.split_inclusive(|byte| *byte == b'\n');
+    let mut lines_b = b.split_inclusive(|byte| *byte == b'\n');
+    let mut number = 0;
+    loop {
+        let (line_a, line_b) = (lines_a.next(), lines_b.next());
+        if line_a != line_b {
+            return format!("line {number}:\n  A: {}\n  B: {}", show(line_a), show(line_b));
+        }
+        if line_a.is_none() {
+            return "no line".to_string();
+        }
+        number += 1;
+    }
+}
+
+fn show(line: Option<&[u8]>) -> String {
+    match line {
+        Some(line) => format!("{:?}", String::from_utf8_lossy(line)),
+        None => "(nothing)".to_string(),
+    }
+}
+
+/// The next item of a stream, its name and the sheet in the error if it is cut.
+fn next(source: &mut impl io::Read, name: &str, which: &str) -> io::Result<Option<Vec<u8>>> {
+    read_item(source).map_err(|error| io::Error::other(format!("{which}, {name}: {error}")))
+}
+
+/// Holds the streams together; the first fault as a sentence.
+fn hold(wish: &Wish, cover: &mut Cover) -> io::Result<Option<String>> {
+    let mut a = open_source(&wish.files[0])?;
+    let mut b = open_source(&wish.files[1])?;
+    let mut sheets = open_source(&wish.files[2])?;
+    for k in 0.. {
+        let which = which(wish, k);
+        let items = (next(&mut a, "A", &which)?, next(&mut b, "B", &which)?);
+        let items = (items.0, items.1, next(&mut sheets, "the sheets", &which)?);
+        let (Some(a), Some(b), Some(sheet)) = &items else {
+            return Ok(match items {
+                (None, None, None) => None,
+                (None, _, _) => Some(format!("{which}: A has ended, another stream has not")),
+                (_, None, _) => Some(format!("{which}: B has ended, another stream has not")),
+                (_, _, _) => Some(format!("{which}: the sheets have ended, A and B have not")),
+            });
+        };
+        if a != b {
+            return Ok(Some(format!("{which} differs in {}", first_difference(a, b))));
+        }
+        if let Err(fault) = cover.count(sheet, a) {
+            return Ok(Some(format!("{which}: A and B agree, but on a {fault}")));
+        }
+    }
+    unreachable!("the loop ends with a stream")
+}
+
+fn main() -> ExitCode {
+    let Some(wish) = wish() else {
+        eprintln!("use: compare A B SHEETS [--seed S] [--skip K] [--any]  (one may be -)");
+        return ExitCode::from(2);
+    };
+    let mut cover = Cover::default();
+    match hold(&wish, &mut cover) {
+        Err(error) => {
+            eprintln!("compare: {error}");
+            return ExitCode::from(2);
+        }
+        Ok(Some(fault)) => {
+            println!("{fault}");
+            return ExitCode::from(1);
+        }
+        Ok(None) => print!("{}", cover.table()),
+    }
+    let faults = cover.faults();
+    if wish.any || faults.is_empty() {
+        println!("no difference");
+        return ExitCode::SUCCESS;
+    }
+    for fault in faults {
+        println!("{fault}");
+    }
+    ExitCode::from(1)
+}

@@ -1,0 +1,58 @@
+//! `sheets SEED COUNT [--skip K]`: sheets K, K + 1, .. of a seed, as a stream.
+//! `--raw` writes the bare bytes without lengths (for COUNT 1).
+
+use oracle_lib::make::sheet;
+use oracle_lib::stream::write_item;
+use std::io::{self, BufWriter, Write};
+use std::process::ExitCode;
+
+struct Wish {
+    seed: u64,
+    count: u64,
+    skip: u64,
+    raw: bool,
+}
+
+fn wish() -> Option<Wish> {
+    let mut numbers = Vec::new();
+    let (mut skip, mut raw) = (0, false);
+    let mut words = std::env::args().skip(1);
+    while let Some(word) = words.next() {
+        match word.as_str() {
+            "--skip" => skip = words.next()?.parse().ok()?,
+            "--raw" => raw = true,
+            _ => numbers.push(word.parse().ok()?),
+        }
+    }
+    match numbers.as_slice() {
+        [seed, count] => Some(Wish { seed: *seed, count: *count, skip, raw }),
+        _ => None,
+    }
+}
+
+fn write_all(wish: &Wish) -> io::Result<()> {
+    let mut out = BufWriter::new(io::stdout().lock());
+    for k in wish.skip..wish.skip + wish.count {
+        let bytes = sheet(wish.seed, k);
+        if wish.raw {
+            out.write_all(&bytes)?;
+        } else {
+            write_item(&mut out, &bytes)?;
+        }
+    }
+    out.flush()
+}
+
+fn main() -> ExitCode {
+    let Some(wish) = wish() else {
+        eprintln!("use: sheets SEED COUNT [--skip K] [--raw]");
+        return ExitCode::from(2);
+    };
+    match write_all(&wish) {
+        Ok(()) => ExitCode::SUCCESS,
+        Err(error) => {
+            eprintln!("sheets: {error}");
+            ExitCode::from(2)
+        }
+    }
+}

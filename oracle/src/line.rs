@@ -1,0 +1,176 @@
+//! The line, its lanes, its view and its book, as plain structs.
+
+use crate::event::Blocks;
+
+pub const MOST_LANES: usize = 64;
+pub const LEAST_CAPACITY: u32 = 8;
+pub const MOST_CAPACITY: u32 = 65_536;
+pub const MOST_POINTER: u32 = 65_536;
+pub const MOST_EXTENT: u16 = 1_024;
+pub const RECORD_BYTES: u64 = 8;
+pub const BOOK_BYTES: usize = 65_536;
+
+#[derive(Clone, Copy, PartialEq, Eq, Debug)]
+pub enum Purpose {
+    SharedWrite,
+    SharedRead,
+    WholeBook,
+}
+
+impl Purpose {
+    /// Purposes: 0 shared write, 1 shared read, 2 whole book.
+    pub fn of(number: u8) -> Option<Purpose> {
+        match number {
+            0 => Some(Purpose::SharedWrite),
+            1 => Some(Purpose::SharedRead),
+            2 => Some(Purpose::WholeBook),
+            _ => None,
+        }
+    }
+}
+
+#[derive(Clone, Copy, PartialEq, Eq, Debug)]
+pub enum Phase {
+    Idle,
+    Waiting { purpose: Purpose },
+    Woken { purpose: Purpose, value: u32 },
+    Holding { purpose: Purpose, value: u32 },
+    Busy { writing: bool, next: u32, left: u32 },
+    Gathered { count: u16 },
+}
+
+#[derive(Clone, Copy, PartialEq, Eq, Debug)]
+pub struct View {
+    pub displacement: u32,
+    pub extent: u16,
+    pub blocks: u8,
+    pub list: Blocks,
+}
+
+impl View {
+    /// Displacement 0, extent 1 and one block (0, 1).
+    pub fn plain() -> View {
+        let mut list = [(0, 0); 8];
+        list[0] = (0, 1);
+        View { displacement: 0, extent: 1, blocks: 1, list }
+    }
+
+    /// Whether every rule of a view holds, for this capacity.
+    pub fn keeps_rules(&self, capacity: u32) -> bool {
+        let extent_good = self.extent >= 1 && self.extent <= MOST_EXTENT;
+        let blocks_good = self.blocks >= 1 && self.blocks <= 8;
+        if self.displacement > capacity || !extent_good || !blocks_good {
+            return false;
+        }
+        let (used, unused) = self.list.split_at(self.blocks as usize);
+        let mut end = 0u32;
+        for &(start, length) in used {
+            if length < 1 || u32::from(start) < end {
+                return false;
+            }
+            end = u32::from(start) + u32::from(length);
+        }
+        end <= u32::from(self.extent) && unused.iter().all(|&block| block == (0, 0))
+    }
+
+    /// The byte position of a place: displacement + 8 x (tile x extent + record in tile).
+    pub fn position(&self, place: u64) -> u64 {
+        let used = &self.list[..self.blocks as usize];
+        let m: u64 = used.iter().map(|&(_, length)| u64::from(length)).sum();
+        let tile = place / m;
+        let mut nth = place % m;
+        for &(start, length) in used {
+            if nth < u64::from(length) {
+                let record = u64::from(start) + nth;
+                let records = tile * u64::from(self.extent) + record;
+                return u64::from(self.displacement) + RECORD_BYTES * records;
+            }
+            nth -= u64::from(length);
+        }
+        unreachable!("place mod m is below the sum of lengths")
+    }
+}
+
+/// Everything of the line but the book's bytes. The vectors have 64 entries.
+#[derive(Clone, PartialEq, Eq, Debug)]
+pub struct Line {
+    pub lanes: usize,
+    pub capacity: u32,
+    pub size: u32,
+    pub pointer: u32,
+    pub view: View,
+    pub phases: Vec<Phase>,
+    pub flags: Vec<u8>,
+}
+
+impl Line {
+    pub fn unopened() -> Line {
+        Line {
+            lanes: 0,
+            capacity: 0,
+            size: 0,
+            pointer: 0,
+            view: View::plain(),
+            phases: vec![Phase::Idle; MOST_LANES],
+            flags: vec![0; MOST_LANES],
+        }
+    }
+
+    pub fn is_open(&self) -> bool {
+        self.lanes != 0
+    }
+
+    /// The phase of a lane below N; none for another number.
+    pub fn phase(&self, lane: usize) -> Option<Phase> {
+        if lane < self.lanes {
+            Some(self.phases[lane])
+        } else {
+            None
+        }
+    }
+
+    /// The phases of the lanes 0 to N - 1.
+    pub fn live(&self) -> &[Phase] {
+        &self.phases[..self.lanes]
+    }
+
+    /// A run fits if it is empty or its last record ends at or below the capacity.
+    pub fn fits(&self, place: u64, records: u64) -> bool {
+        if records == 0 {
+            return true;
+        }
+        self.view.position(place + records - 1) + RECORD_BYTES <= u64::from(self.capacity)
+    }
+
+    /// The sum of the counts of the gathered lanes.
+    pub fn gathered_total(&self) -> u64 {
+        let counts = self.live().iter().map(|phase| match *phase {
+            Phase::Gathered { count } => u64::from(count),
+            _ => 0,
+        });
+        counts.sum()
+    }
+}
+
+/// Where a release looks for the next lane.
+#[derive(Clone, Copy, PartialEq, Eq, Debug)]
+pub enum Search {
+    /// As the papers say: first flagged after the releaser, then from 0.
+    AfterReleaser,
+    /// A planted mistake, for tests only: first flagged from lane 0.
+    FromLaneZero,
+}
+
+/// The line, the lent book and the search: all that a call is handed.
+#[derive(Clone, Debug)]
+pub struct Machine {
+    pub line: Line,
+    pub book: Vec<u8>,
+    pub search: Search,
+}
+
+impl Machine {
+    pub fn new(search: Search) -> Machine {
+        Machine { line: Line::unopened(), book: vec![0; BOOK_BYTES], search }
+    }
+}

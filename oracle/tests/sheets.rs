@@ -1,0 +1,123 @@
+//! What the generator promises, and what every made-up sheet must show.
+
+use oracle_lib::answer::Answer;
+use oracle_lib::cover::{kinds, Cover};
+use oracle_lib::event::read_event;
+use oracle_lib::line::{Machine, Search};
+use oracle_lib::make::{all_cuts, sheet, sort_of, Sort};
+use oracle_lib::refuse::refuse_1_line_not_sound;
+use oracle_lib::sheet::print_sheet;
+use std::collections::BTreeSet;
+
+#[test]
+fn every_cut_of_every_kind_comes() {
+    assert_eq!(all_cuts().len(), 87);
+    let mut seen = BTreeSet::new();
+    for k in (0..22 * 48).filter(|&k| sort_of(k) == Sort::Cut) {
+        let sheet = sheet(3, k);
+        let mut at = 0;
+        while let Some(Ok(_)) = read_event(&sheet, &mut at) {}
+        seen.insert((sheet[at], sheet.len() - at));
+    }
+    assert_eq!(seen.into_iter().collect::<Vec<_>>(), all_cuts());
+}
+
+#[test]
+fn lengths_come_as_promised() {
+    for k in 0..192 {
+        let sheet = sheet(3, k);
+        match sort_of(k) {
+            Sort::Empty => assert!(sheet.is_empty()),
+            Sort::Full => assert_eq!(sheet.len(), 65_536),
+            Sort::TooLong => assert!(sheet.len() >= 65_537),
+            Sort::Unlisted => assert_eq!(kinds(&sheet).last(), Some(&0)),
+            _ => assert!(sheet.len() <= 65_536),
+        }
+    }
+}
+
+#[test]
+fn lanes_come_as_promised() {
+    let mut accepted = BTreeSet::new();
+    let mut refused = BTreeSet::new();
+    for k in 0..480 {
+        let sheet = sheet(3, k);
+        let printed = String::from_utf8(print_sheet(&sheet, Search::AfterReleaser)).unwrap();
+        let mut at = 0;
+        for line in printed.lines() {
+            let before = at;
+            let Some(Ok(event)) = read_event(&sheet, &mut at) else { break };
+            if event.kind() == 0x01 {
+                let lanes = sheet[before + 1];
+                let open = line.contains("open");
+                if open {
+                    accepted.insert(lanes)
+                } else {
+                    refused.insert(lanes)
+                };
+            }
+        }
+    }
+    assert!([1, 2, 3, 12, 63, 64].iter().all(|lanes| accepted.contains(lanes)));
+    assert!([0, 65, 255].iter().all(|lanes| refused.contains(lanes)));
+}
+
+/// Every call leaves a sound line, and a refused one leaves line and book alone.
+#[test]
+fn sound_all_along_and_refusals_change_nothing() {
+    for k in (0..192).filter(|&k| sort_of(k) != Sort::Full && sort_of(k) != Sort::LongWalk) {
+        let sheet = sheet(5, k);
+        let mut machine = Machine::new(Search::AfterReleaser);
+        let mut at = 0;
+        while let Some(Ok(event)) = read_event(&sheet, &mut at) {
+            if sheet.len() > 3_000 {
+                break;
+            }
+            let before = machine.clone();
+            let answer = machine.call(&event);
+            assert!(!refuse_1_line_not_sound(&machine.line, machine.book.len()));
+            if matches!(answer, Answer::Refused { .. }) {
+                assert_eq!((&before.line, &before.book), (&machine.line, &machine.book));
+            }
+        }
+    }
+}
+
+#[test]
+fn events_write_back_the_same_bytes() {
+    for k in 0..96 {
+        let sheet = sheet(9, k);
+        let (mut at, mut before) = (0, 0);
+        while let Some(Ok(event)) = read_event(&sheet, &mut at) {
+            assert_eq!(event.to_bytes(), &sheet[before..at]);
+            before = at;
+        }
+    }
+}
+
+#[test]
+fn answers_read_back_the_same() {
+    for k in 0..96 {
+        let printed = print_sheet(&sheet(9, k), Search::AfterReleaser);
+        for line in String::from_utf8(printed).unwrap().lines() {
+            let (number, rest) = line.split_once(' ').unwrap();
+            if number != "end" && line != "sheet too long" {
+                assert_eq!(Answer::parse(rest).expect(line).text(), rest);
+            }
+        }
+    }
+}
+
+#[test]
+fn a_whole_round_of_cuts_hits_everything() {
+    let mut cover = Cover::default();
+    for k in 0..22 * 48 {
+        if sort_of(k) == Sort::Full || sort_of(k) == Sort::LongWalk {
+            continue; // slow, and nothing should rest on them alone
+        }
+        let sheet = sheet(2, k);
+        let printed = print_sheet(&sheet, Search::AfterReleaser);
+        cover.count(&sheet, &printed).unwrap();
+    }
+    assert_eq!(cover.faults(), Vec::<String>::new());
+}
