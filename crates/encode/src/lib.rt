@@ -12,39 +12,18 @@ fn length_of(event: Event) -> usize
     ensures { λ r. ⌜ r ≡ lengthOf event ⌝ }
 {
     match event {
-        Event::Open {
-            lanes: _,
-            capacity: _,
-        } => 6,
-        Event::Want {
-            lane: _,
-            purpose: _,
-        } => 3,
-        Event::Receive { lane: _ } => 2,
-        Event::Take { lane: _, count: _ } => 4,
-        Event::Write {
-            lane: _,
-            content: _,
-        } => 10,
-        Event::Read { lane: _ } => 2,
-        Event::Put {
-            lane: _,
-            place: _,
-            content: _,
-        } => 14,
-        Event::Look { lane: _, place: _ } => 6,
-        Event::Free { lane: _ } => 2,
-        Event::Enter { lane: _, count: _ } => 4,
-        Event::View {
-            displacement: _,
-            extent: _,
-            used: _,
-            blocks: _,
-        } => 40,
-        Event::Seek {
-            whence: _,
-            offset: _,
-        } => 6,
+        Event::Open { .. } => 6,
+        Event::Want { .. } => 3,
+        Event::Receive { .. } => 2,
+        Event::Take { .. } => 4,
+        Event::Write { .. } => 10,
+        Event::Read { .. } => 2,
+        Event::Put { .. } => 14,
+        Event::Look { .. } => 6,
+        Event::Free { .. } => 2,
+        Event::Enter { .. } => 4,
+        Event::View { .. } => 40,
+        Event::Seek { .. } => 6,
         Event::Unlisted => 0,
     }
 }

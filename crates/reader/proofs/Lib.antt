@@ -1,0 +1,2 @@
+-- The law by which a local is lent for one call.
+pub mod Lent

@@ -1,0 +1,2 @@
+-- The definitions of the reader.
+pub mod Reader
