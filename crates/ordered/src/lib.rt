@@ -3,7 +3,7 @@ ghost use Prim.Native.Nat.{_≤_};
 ghost use mathlib.Core.Bool.{true};
 ghost use mathlib.Core.Path.{_≡_};
 ghost use lib.ListN.{length};
-ghost use Rattle.lists.specs.Lists.{all, count};
+ghost use Rattle.lists.specs.Lists.{all, bit, count};
 ghost use Rattle.view.specs.View.{place};
 ghost use Rattle.line.specs.Line.{isGathered, isIdleOrGathered, lane, mostPointer, on};
 ghost use Rattle.line.specs.Sound.{gatheredTotal, sound};
@@ -67,4 +67,54 @@ fn start_all(lanes: [Lane; MOST_LANES], pointer: u32) -> [Lane; MOST_LANES]
         r += 1;
     }
     out
+}
+
+// How many lanes have entered, and the sum of their counts.
+struct Gathering {
+    lanes: usize,
+    total: u32,
+}
+
+fn gathering(lanes: [Lane; MOST_LANES]) -> Gathering
+    ensures { λ r. ⌜ (r .lanes ≡ count (on isGathered) lanes) × (r .total ≡ gatheredTotal lanes) × (r .total ≤ 4194240) ⌝ }
+{
+    let mut entered: usize = 0;
+    let mut total: u32 = 0;
+    let mut i: usize = 0;
+    while i < MOST_LANES {
+        let own = lanes[i];
+        let phase = own.phase;
+        entered += one(phases::is_gathered(phase));
+        total += phases::count_in(phase) as u32;
+        i += 1;
+    }
+    Gathering {
+        lanes: entered,
+        total,
+    }
+}
+
+fn one(b: bool) -> usize
+    ensures { λ r. ⌜ (r ≡ bit b) × (r ≤ 1) ⌝ }
+{
+    if b {
+        return 1;
+    }
+    0
+}
+
+// Whether all lanes are idle or gathered.
+fn all_ready(lanes: [Lane; MOST_LANES]) -> bool
+    ensures { λ r. ⌜ r ≡ all (on isIdleOrGathered) lanes ⌝ }
+{
+    let mut i: usize = 0;
+    while i < MOST_LANES {
+        let own = lanes[i];
+        let phase = own.phase;
+        if !phases::is_idle_or_gathered(phase) {
+            return false;
+        }
+        i += 1;
+    }
+    true
 }

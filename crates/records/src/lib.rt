@@ -122,10 +122,10 @@ pub fn put(line: Line, book: &mut [u8], lane: u8, place: Place, content: u64) ->
     let position = view.position(place);
     let at = position.0 as usize;
     bytes::store_record(book, at, content);
-    let mut next = line;
-    next.size = larger(line.size, at as u32 + 8);
+    let mut grown = line;
+    grown.size = larger(line.size, at as u32 + 8);
     Outcome {
-        line: next,
+        line: grown,
         answer: Answer::Wrote { position },
     }
 }

@@ -35,6 +35,13 @@ module _ (l : Line) (book : List ℕ) where
   pub passes : (k : ℕ) {b : Bool} (rest : Result) → b ≡ true → cond (not b) (refuse k (stateOf l book)) rest ≡ rest
   passes k rest e = rw e
 
+  -- a test that a call must fail
+  pub stops : (k : ℕ) {b : Bool} (rest : Result) → b ≡ true → cond b (refuse k (stateOf l book)) rest ≡ refuse k (stateOf l book)
+  stops k rest e = rw e
+
+  pub goes-on : (k : ℕ) {b : Bool} (rest : Result) → b ≡ false → cond b (refuse k (stateOf l book)) rest ≡ rest
+  goes-on k rest e = rw e
+
   module _ (ok : sound l (length book) ≡ true) where
     pub when-sound : (rest : Result) → whenSound (stateOf l book) rest ≡ rest
     when-sound rest = rw ok
