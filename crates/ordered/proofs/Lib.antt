@@ -1,2 +1,3 @@
--- The laws of the loop over the lanes.
+-- The laws of the loop over the lanes, and of the steps of an entry.
 pub mod Started
+pub mod Calls

@@ -1,1 +1,2 @@
--- The definitions of this crate's contracts are those of `steps`.
+-- The outcome of an entry into an ordered call.
+pub mod Settled

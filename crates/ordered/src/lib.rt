@@ -1,22 +1,25 @@
 // The call 0A enter: a lane enters an ordered call, and the last one to enter starts all of them. The line is sound: the entries test that.
-ghost use Prim.Native.Nat.{_≤_};
+ghost use Prim.Native.Nat.{_+_, _≤_};
 ghost use mathlib.Core.Bool.{true};
 ghost use mathlib.Core.Path.{_≡_};
 ghost use lib.ListN.{length};
-ghost use Rattle.lists.specs.Lists.{all, bit, count};
 ghost use Rattle.view.specs.View.{place};
-ghost use Rattle.line.specs.Line.{isGathered, isIdleOrGathered, lane, mostPointer, on};
-ghost use Rattle.line.specs.Sound.{gatheredTotal, sound};
+ghost use Rattle.line.specs.Line.{mostPointer};
+ghost use Rattle.line.specs.Sound.{sound};
 ghost use Rattle.event.specs.declared.Event.{Event};
 ghost use Rattle.steps.specs.Effects.{started, startedAt, writing};
 ghost use Rattle.steps.specs.Meets.{Meets, stateOf};
 ghost use Rattle.steps.specs.Step.{callEvent};
+ghost use Rattle.ordered.specs.Settled.{settled};
 use line::Lane;
 use line::Line;
 use line::MOST_LANES;
 use line::Phase;
 use refusals::refuse;
+use soundness::lanes::tally_of;
 use soundness::phases;
+use soundness::rules;
+use soundness::rules::Rule;
 use steps::Answer;
 use steps::Outcome;
 use view::Place;
@@ -69,52 +72,59 @@ fn start_all(lanes: [Lane; MOST_LANES], pointer: u32) -> [Lane; MOST_LANES]
     out
 }
 
-// How many lanes have entered, and the sum of their counts.
-struct Gathering {
-    lanes: usize,
-    total: u32,
+// The lanes with one more entered, of whom `gathered` are in with `total` records: all N start, or the lane waits for the others.
+fn settle(line: Line, lanes: [Lane; MOST_LANES], gathered: usize, total: u32) -> Outcome
+    requires { ⌜ line .pointer .0 + total ≤ mostPointer ⌝ }
+    ensures { λ r. ⌜ r ≡ settled line lanes gathered total ⌝ }
+{
+    let mut next = line;
+    if gathered != line.lanes as usize {
+        next.lane = lanes;
+        return Outcome {
+            line: next,
+            answer: Answer::Gathered,
+        };
+    }
+    let before = line.pointer;
+    let started = start_all(lanes, before.0);
+    let pointer = Place(before.0 + total);
+    next.lane = started;
+    next.pointer = pointer;
+    Outcome {
+        line: next,
+        answer: Answer::Ordered { before, total },
+    }
 }
 
-fn gathering(lanes: [Lane; MOST_LANES]) -> Gathering
-    ensures { λ r. ⌜ (r .lanes ≡ count (on isGathered) lanes) × (r .total ≡ gatheredTotal lanes) × (r .total ≤ 4194240) ⌝ }
+// 0A: an idle lane becomes gathered; when all N are in, each starts after those below it.
+pub fn enter(line: Line, book: &[u8], lane: u8, count: u16) -> Outcome
+    requires { ⌜ sound line (length (now book)) ≡ true ⌝ }
+    ensures { λ r. ⌜ Meets (callEvent (stateOf line (now (book .entry))) (Event.Enter lane count)) r (now (book .entry)) ⌝ }
 {
-    let mut entered: usize = 0;
-    let mut total: u32 = 0;
-    let mut i: usize = 0;
-    while i < MOST_LANES {
-        let own = lanes[i];
-        let phase = own.phase;
-        entered += one(phases::is_gathered(phase));
-        total += phases::count_in(phase) as u32;
-        i += 1;
+    if line.lanes == 0 {
+        return refuse(line, 4);
     }
-    Gathering {
-        lanes: entered,
-        total,
+    if line.lanes <= lane {
+        return refuse(line, 8);
     }
-}
-
-fn one(b: bool) -> usize
-    ensures { λ r. ⌜ (r ≡ bit b) × (r ≤ 1) ⌝ }
-{
-    if b {
-        return 1;
+    if !rules::all_meet(Rule::IdleOrGathered, line, 0) {
+        return refuse(line, 11);
     }
-    0
-}
-
-// Whether all lanes are idle or gathered.
-fn all_ready(lanes: [Lane; MOST_LANES]) -> bool
-    ensures { λ r. ⌜ r ≡ all (on isIdleOrGathered) lanes ⌝ }
-{
-    let mut i: usize = 0;
-    while i < MOST_LANES {
-        let own = lanes[i];
-        let phase = own.phase;
-        if !phases::is_idle_or_gathered(phase) {
-            return false;
-        }
-        i += 1;
+    let i = lane as usize;
+    let mut lanes = line.lane;
+    let own = lanes[i];
+    let phase = own.phase;
+    if !phases::is_idle(phase) {
+        return refuse(line, 13);
     }
-    true
+    lanes[i] = Lane {
+        phase: Phase::Gathered(count),
+    };
+    let tally = tally_of(lanes);
+    let view = line.view;
+    let pointer = line.pointer;
+    if !view.fits(line.capacity, pointer, tally.total) {
+        return refuse(line, 16);
+    }
+    settle(line, lanes, tally.gathered, tally.total)
 }

@@ -4,10 +4,10 @@ ghost use mathlib.Core.Bool.{true};
 ghost use Rattle.line.specs.Sound.{busyOk, flagsOk, gatheredOk, pastOk, sound, turnOk};
 use line::Line;
 
-mod lanes;
+pub mod lanes;
 mod numbers;
 pub mod phases;
-mod rules;
+pub mod rules;
 
 use rules::Rule;
 
