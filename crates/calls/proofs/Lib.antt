@@ -1,0 +1,2 @@
+-- The law of a call on an unsound line.
+pub mod Unsound

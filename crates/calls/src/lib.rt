@@ -1,0 +1,139 @@
+// The entries: a function for each call, one that takes an event. None requires anything: an unsound line is refused with 1.
+ghost use mathlib.Core.Path.{_≡_};
+ghost use Rattle.event.specs.declared.Event.{Event};
+ghost use Rattle.steps.specs.Meets.{Meets, stateOf};
+ghost use Rattle.steps.specs.Step.{callEvent};
+use event::Blocks;
+use event::Event;
+use line::Line;
+use refusals::refuse;
+use soundness::is_sound;
+use steps::Outcome;
+use view::Place;
+
+// 01: opens the line and zeroes the book's capacity bytes.
+pub fn open(line: Line, book: &mut [u8], lanes: u8, capacity: u32) -> Outcome
+    ensures { λ r. ⌜ Meets (callEvent (stateOf line (now (book .entry))) (Event.Open lanes capacity)) r (now (book .exit)) ⌝ }
+{
+    if !is_sound(line, book.len()) {
+        return refuse(line, 1);
+    }
+    setup::open(line, book, lanes, capacity)
+}
+
+// 02: a lane asks for the book.
+pub fn want(line: Line, book: &[u8], lane: u8, purpose: u8) -> Outcome
+    ensures { λ r. ⌜ Meets (callEvent (stateOf line (now (book .entry))) (Event.Want lane purpose)) r (now (book .entry)) ⌝ }
+{
+    if !is_sound(line, book.len()) {
+        return refuse(line, 1);
+    }
+    turns::want(line, book, lane, purpose)
+}
+
+// 03: a lane receives its wake.
+pub fn receive(line: Line, book: &[u8], lane: u8) -> Outcome
+    ensures { λ r. ⌜ Meets (callEvent (stateOf line (now (book .entry))) (Event.Receive lane)) r (now (book .entry)) ⌝ }
+{
+    if !is_sound(line, book.len()) {
+        return refuse(line, 1);
+    }
+    turns::receive(line, book, lane)
+}
+
+// 04: a holder takes a region and releases.
+pub fn take(line: Line, book: &[u8], lane: u8, count: u16) -> Outcome
+    ensures { λ r. ⌜ Meets (callEvent (stateOf line (now (book .entry))) (Event.Take lane count)) r (now (book .entry)) ⌝ }
+{
+    if !is_sound(line, book.len()) {
+        return refuse(line, 1);
+    }
+    turns::take(line, book, lane, count)
+}
+
+// 05: a busy writer puts its next record.
+pub fn write(line: Line, book: &mut [u8], lane: u8, content: u64) -> Outcome
+    ensures { λ r. ⌜ Meets (callEvent (stateOf line (now (book .entry))) (Event.Write lane content)) r (now (book .exit)) ⌝ }
+{
+    if !is_sound(line, book.len()) {
+        return refuse(line, 1);
+    }
+    records::write(line, book, lane, content)
+}
+
+// 06: a busy reader gets its next record.
+pub fn read(line: Line, book: &[u8], lane: u8) -> Outcome
+    ensures { λ r. ⌜ Meets (callEvent (stateOf line (now (book .entry))) (Event.Read lane)) r (now (book .entry)) ⌝ }
+{
+    if !is_sound(line, book.len()) {
+        return refuse(line, 1);
+    }
+    records::read(line, book, lane)
+}
+
+// 07: the holder of the whole book puts a record at a place.
+pub fn put(line: Line, book: &mut [u8], lane: u8, place: Place, content: u64) -> Outcome
+    ensures { λ r. ⌜ Meets (callEvent (stateOf line (now (book .entry))) (Event.Put lane place content)) r (now (book .exit)) ⌝ }
+{
+    if !is_sound(line, book.len()) {
+        return refuse(line, 1);
+    }
+    records::put(line, book, lane, place, content)
+}
+
+// 08: the holder of the whole book looks at a place.
+pub fn look(line: Line, book: &[u8], lane: u8, place: Place) -> Outcome
+    ensures { λ r. ⌜ Meets (callEvent (stateOf line (now (book .entry))) (Event.Look lane place)) r (now (book .entry)) ⌝ }
+{
+    if !is_sound(line, book.len()) {
+        return refuse(line, 1);
+    }
+    records::look(line, book, lane, place)
+}
+
+// 09: the holder of the whole book releases.
+pub fn free(line: Line, book: &[u8], lane: u8) -> Outcome
+    ensures { λ r. ⌜ Meets (callEvent (stateOf line (now (book .entry))) (Event.Free lane)) r (now (book .entry)) ⌝ }
+{
+    if !is_sound(line, book.len()) {
+        return refuse(line, 1);
+    }
+    turns::free(line, book, lane)
+}
+
+// 0A: a lane enters an ordered call.
+pub fn enter(line: Line, book: &[u8], lane: u8, count: u16) -> Outcome
+    ensures { λ r. ⌜ Meets (callEvent (stateOf line (now (book .entry))) (Event.Enter lane count)) r (now (book .entry)) ⌝ }
+{
+    if !is_sound(line, book.len()) {
+        return refuse(line, 1);
+    }
+    ordered::enter(line, book, lane, count)
+}
+
+// 0B: sets the view.
+pub fn set_view(
+    line: Line,
+    book: &[u8],
+    displacement: u32,
+    extent: u16,
+    used: u8,
+    blocks: Blocks,
+) -> Outcome
+    ensures { λ r. ⌜ Meets (callEvent (stateOf line (now (book .entry))) (Event.View displacement extent used blocks)) r (now (book .entry)) ⌝ }
+{
+    if !is_sound(line, book.len()) {
+        return refuse(line, 1);
+    }
+    setup::set_view(line, book, displacement, extent, used, blocks)
+}
+
+// 0C: moves the pointer.
+pub fn seek(line: Line, book: &[u8], whence: u8, offset: i32) -> Outcome
+    ensures { λ r. ⌜ Meets (callEvent (stateOf line (now (book .entry))) (Event.Seek whence offset)) r (now (book .entry)) ⌝ }
+{
+    if !is_sound(line, book.len()) {
+        return refuse(line, 1);
+    }
+    setup::seek(line, book, whence, offset)
+}
