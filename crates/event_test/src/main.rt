@@ -40,15 +40,20 @@ fn print_hex(name: &[u8], value: u64, width: usize) {
     io::write_all(1, b"\n");
 }
 
-// A label, a blank, the bytes in hexadecimal and a line end.
-fn print_bytes(name: &[u8], bytes: &[u8]) {
-    io::write_all(1, name);
-    io::write_all(1, b" ");
+// Two hexadecimal digits for each byte.
+fn print_digits(bytes: &[u8]) {
     let mut i: usize = 0;
     while i < bytes.len() {
         io::print_hex(1, wide8(bytes[i]), 2);
         i += 1;
     }
+}
+
+// A label, a blank, the bytes in hexadecimal and a line end.
+fn print_bytes(name: &[u8], bytes: &[u8]) {
+    io::write_all(1, name);
+    io::write_all(1, b" ");
+    print_digits(bytes);
     io::write_all(1, b"\n");
 }
 
@@ -186,7 +191,7 @@ fn print_written(buffer: &[u8], n: usize) {
     if buffer.len() < n {
         return;
     }
-    print_bytes(b"bytes", &buffer[..n]);
+    print_bytes(b"bytes", &buffer[0..n]);
     print_bytes(b"past", &buffer[n..]);
 }
 
@@ -195,12 +200,12 @@ fn read_cut(buffer: &[u8], n: usize) {
     if n < 1 {
         return;
     }
-    if buffer.len() < n {
+    let end = n - 1;
+    if buffer.len() < end {
         return;
     }
-    let end = n - 1;
     io::write_all(1, b"cut ");
-    print_reading(decode::read_event(&buffer[..end], Cursor { at: 0 }));
+    print_reading(decode::read_event(&buffer[0..end], Cursor { at: 0 }));
 }
 
 // Writes an event of n bytes into a buffer that has one byte less.
@@ -208,12 +213,12 @@ fn write_short(event: Event, buffer: &mut [u8], n: usize) {
     if n < 1 {
         return;
     }
-    if buffer.len() < n {
+    let end = n - 1;
+    if buffer.len() < end {
         return;
     }
-    let end = n - 1;
     io::write_all(1, b"short ");
-    print_writing(encode::write_event(event, &mut buffer[..end]));
+    print_writing(encode::write_event(event, &mut buffer[0..end]));
     print_bytes(b"left", buffer);
 }
 
