@@ -20,17 +20,8 @@ fn print_bool(name: &[u8], value: bool) {
     print(name, 0);
 }
 
-fn print_position(name: &[u8], view: View, place: u32) {
-    let position = view.position(Place(place));
-    print(name, position.0);
-}
-
-fn print_ok(name: &[u8], view: View, capacity: u32) {
-    print_bool(name, view.is_ok(capacity));
-}
-
-fn print_fits(name: &[u8], view: View, capacity: u32, place: u32, count: u32) {
-    print_bool(name, view.fits(capacity, Place(place), count));
+fn wide(x: u32) -> u64 {
+    x as u64
 }
 
 fn print_end(name: &[u8], size: u32) {
@@ -40,10 +31,6 @@ fn print_end(name: &[u8], size: u32) {
 
 fn print_shown(name: &[u8], view: View) {
     print(name, wide(view.shown()));
-}
-
-fn wide(x: u32) -> u64 {
-    x as u64
 }
 
 fn block(start: u16, length: u16) -> Block {
@@ -64,8 +51,8 @@ fn two(displacement: u32, extent: u16, used: u8, first: Block, second: Block) ->
 }
 
 // A view with displacement 0 and one block.
-fn one(extent: u16, first: Block) -> View {
-    two(0, extent, 1, first, Block::UNUSED)
+fn one(extent: u16, start: u16, length: u16) -> View {
+    two(0, extent, 1, block(start, length), Block::UNUSED)
 }
 
 // The view of document 01's example.
@@ -99,130 +86,149 @@ fn last_left() -> View {
     view
 }
 
-// Positions of the first and the last place that 32 bits hold, and of the places at a tile's end.
+// The position of a place: in any view, in the example's, in the plain one and in one with an extent of 1024.
+fn print_position(name: &[u8], view: View, place: u32) {
+    let position = view.position(Place(place));
+    print(name, position.0);
+}
+
+fn in_example(name: &[u8], place: u32) {
+    print_position(name, example(), place);
+}
+
+fn in_plain(name: &[u8], place: u32) {
+    print_position(name, View::PLAIN, place);
+}
+
+fn in_1024(name: &[u8], start: u16, length: u16, place: u32) {
+    print_position(name, one(1024, start, length), place);
+}
+
+// The places of the example, and the last two that 32 bits hold.
+fn positions_in_example() {
+    in_example(b"example_0", 0);
+    in_example(b"example_1", 1);
+    in_example(b"example_2", 2);
+    in_example(b"example_3", 3);
+    in_example(b"example_4294967294", 4294967294);
+    in_example(b"example_4294967295", 4294967295);
+}
+
+// The first and the last place that 32 bits hold, and the places at a tile's end.
 fn positions() {
-    print_position(b"example_0", example(), 0);
-    print_position(b"example_1", example(), 1);
-    print_position(b"example_2", example(), 2);
-    print_position(b"example_3", example(), 3);
-    print_position(b"example_4294967294", example(), 4294967294);
-    print_position(b"example_4294967295", example(), 4294967295);
-    print_position(b"plain_0", View::PLAIN, 0);
-    print_position(b"plain_4294967295", View::PLAIN, 4294967295);
-    print_position(b"extent_1024_0", one(1024, block(0, 1)), 0);
-    print_position(
-        b"extent_1024_4294967295",
-        one(1024, block(0, 1)),
-        4294967295,
-    );
-    print_position(b"block_1023_0", one(1024, block(1023, 1)), 0);
-    print_position(
-        b"block_1023_4294967295",
-        one(1024, block(1023, 1)),
-        4294967295,
-    );
-    print_position(b"whole_tile_1023", one(1024, block(0, 1024)), 1023);
-    print_position(b"whole_tile_1024", one(1024, block(0, 1024)), 1024);
+    in_plain(b"plain_0", 0);
+    in_plain(b"plain_4294967295", 4294967295);
+    in_1024(b"extent_1024_0", 0, 1, 0);
+    in_1024(b"extent_1024_4294967295", 0, 1, 4294967295);
+    in_1024(b"block_1023_0", 1023, 1, 0);
+    in_1024(b"block_1023_4294967295", 1023, 1, 4294967295);
+    in_1024(b"whole_tile_1023", 0, 1024, 1023);
+    in_1024(b"whole_tile_1024", 0, 1024, 1024);
     print_position(b"eight_blocks_7", eight(8), 7);
     print_position(b"eight_blocks_8", eight(8), 8);
+}
+
+fn sums_of_lengths() {
     print_shown(b"shown_plain", View::PLAIN);
     print_shown(b"shown_example", example());
     print_shown(b"shown_eight_blocks", eight(8));
-    print_shown(b"shown_whole_tile", one(1024, block(0, 1024)));
+    print_shown(b"shown_whole_tile", one(1024, 0, 1024));
 }
 
-// The rules on displacement, extent and the number of blocks.
+// Whether a view meets the rules for 64 bytes: any view, one with a displacement, one with one block and one with two.
+fn is_ok(name: &[u8], view: View) {
+    print_bool(name, view.is_ok(64));
+}
+
+fn displaced_is_ok(name: &[u8], displacement: u32) {
+    is_ok(name, two(displacement, 1, 1, block(0, 1), Block::UNUSED));
+}
+
+fn one_is_ok(name: &[u8], extent: u16, start: u16, length: u16) {
+    is_ok(name, one(extent, start, length));
+}
+
+fn second_is_ok(name: &[u8], used: u8, start: u16, length: u16) {
+    is_ok(name, two(0, 3, used, block(0, 2), block(start, length)));
+}
+
+// The rules on displacement and extent.
 fn rules_of_numbers() {
-    print_ok(b"ok_plain", View::PLAIN, 8);
-    print_ok(b"ok_example", example(), 64);
-    print_ok(
-        b"ok_displacement_0",
-        two(0, 1, 1, block(0, 1), Block::UNUSED),
-        64,
-    );
-    print_ok(
-        b"ok_displacement_is_capacity",
-        two(64, 1, 1, block(0, 1), Block::UNUSED),
-        64,
-    );
-    print_ok(
-        b"ok_displacement_past_capacity",
-        two(65, 1, 1, block(0, 1), Block::UNUSED),
-        64,
-    );
-    print_ok(
-        b"ok_displacement_4294967295",
-        two(4294967295, 1, 1, block(0, 1), Block::UNUSED),
-        65536,
-    );
-    print_ok(b"ok_extent_0", one(0, block(0, 1)), 64);
-    print_ok(b"ok_extent_1", one(1, block(0, 1)), 64);
-    print_ok(b"ok_extent_1024", one(1024, block(0, 1)), 64);
-    print_ok(b"ok_extent_1025", one(1025, block(0, 1)), 64);
-    print_ok(b"ok_extent_65535", one(65535, block(0, 1)), 64);
-    print_ok(b"ok_used_0", two(0, 1, 0, Block::UNUSED, Block::UNUSED), 64);
-    print_ok(b"ok_used_1", two(0, 1, 1, block(0, 1), Block::UNUSED), 64);
-    print_ok(b"ok_used_8", eight(8), 64);
-    print_ok(b"ok_used_9", eight(9), 64);
-    print_ok(b"ok_used_255", eight(255), 64);
+    is_ok(b"ok_plain", View::PLAIN);
+    is_ok(b"ok_example", example());
+    displaced_is_ok(b"ok_displacement_0", 0);
+    displaced_is_ok(b"ok_displacement_is_capacity", 64);
+    displaced_is_ok(b"ok_displacement_past_capacity", 65);
+    displaced_is_ok(b"ok_displacement_4294967295", 4294967295);
+    one_is_ok(b"ok_extent_0", 0, 0, 1);
+    one_is_ok(b"ok_extent_1", 1, 0, 1);
+    one_is_ok(b"ok_extent_1024", 1024, 0, 1);
+    one_is_ok(b"ok_extent_1025", 1025, 0, 1);
+    one_is_ok(b"ok_extent_65535", 65535, 0, 1);
 }
 
-// The rules on the blocks.
+// The rules on how many blocks there are and on those that are not used.
+fn rules_of_use() {
+    is_ok(b"ok_used_0", two(0, 1, 0, Block::UNUSED, Block::UNUSED));
+    one_is_ok(b"ok_used_1", 1, 0, 1);
+    is_ok(b"ok_used_7_of_eight", eight(7));
+    is_ok(b"ok_used_8", eight(8));
+    is_ok(b"ok_used_9", eight(9));
+    is_ok(b"ok_used_255", eight(255));
+    second_is_ok(b"ok_unused_zero", 1, 0, 0);
+    second_is_ok(b"ok_unused_start_2", 1, 2, 0);
+    second_is_ok(b"ok_unused_length_1", 1, 0, 1);
+    is_ok(b"ok_last_unused_not_zero", last_left());
+}
+
+// The rules on the blocks in use.
 fn rules_of_blocks() {
-    print_ok(b"ok_touching", two(0, 3, 2, block(0, 2), block(2, 1)), 64);
-    print_ok(
-        b"ok_overlapping",
-        two(0, 3, 2, block(0, 2), block(1, 1)),
-        64,
-    );
-    print_ok(b"ok_falling", two(0, 3, 2, block(1, 1), block(0, 1)), 64);
-    print_ok(b"ok_end_is_extent", one(3, block(1, 2)), 64);
-    print_ok(b"ok_end_past_extent", one(3, block(1, 3)), 64);
-    print_ok(b"ok_start_past_extent", one(3, block(4, 1)), 64);
-    print_ok(b"ok_whole_tile", one(1024, block(0, 1024)), 64);
-    print_ok(b"ok_end_65536", one(1024, block(65535, 1)), 64);
-    print_ok(b"ok_length_0", one(3, block(0, 0)), 64);
-    print_ok(
-        b"ok_second_length_0",
-        two(0, 3, 2, block(0, 1), block(1, 0)),
-        64,
-    );
-    print_ok(
-        b"ok_unused_start_1",
-        two(0, 3, 1, block(0, 1), block(1, 0)),
-        64,
-    );
-    print_ok(
-        b"ok_unused_length_1",
-        two(0, 3, 1, block(0, 1), block(0, 1)),
-        64,
-    );
-    print_ok(b"ok_last_unused_not_zero", last_left(), 64);
-    print_ok(b"ok_seven_used_of_eight", eight(7), 64);
+    second_is_ok(b"ok_touching", 2, 2, 1);
+    second_is_ok(b"ok_overlapping", 2, 1, 1);
+    second_is_ok(b"ok_falling", 2, 0, 1);
+    second_is_ok(b"ok_second_past_extent", 2, 2, 2);
+    second_is_ok(b"ok_second_length_0", 2, 2, 0);
+    one_is_ok(b"ok_end_is_extent", 3, 1, 2);
+    one_is_ok(b"ok_end_past_extent", 3, 1, 3);
+    one_is_ok(b"ok_start_past_extent", 3, 4, 1);
+    one_is_ok(b"ok_whole_tile", 1024, 0, 1024);
+    one_is_ok(b"ok_end_65536", 1024, 65535, 1);
+    one_is_ok(b"ok_length_0", 3, 0, 0);
 }
 
-// What fits, and the end of the book.
-fn runs_and_ends() {
-    print_fits(b"fits_8_in_64", View::PLAIN, 64, 0, 8);
-    print_fits(b"fits_9_in_64", View::PLAIN, 64, 0, 9);
-    print_fits(b"fits_7_in_63", View::PLAIN, 63, 0, 7);
-    print_fits(b"fits_8_in_63", View::PLAIN, 63, 0, 8);
-    print_fits(b"fits_1_from_7", View::PLAIN, 64, 7, 1);
-    print_fits(b"fits_1_from_8", View::PLAIN, 64, 8, 1);
-    print_fits(b"fits_0_from_0", View::PLAIN, 8, 0, 0);
-    print_fits(b"fits_0_from_8", View::PLAIN, 64, 8, 0);
-    print_fits(b"fits_0_from_4294967295", View::PLAIN, 8, 4294967295, 0);
-    print_fits(b"fits_1_from_4294967295", View::PLAIN, 65536, 4294967295, 1);
-    print_fits(
+// Whether a run fits: in the plain view and in the example's.
+fn fits(name: &[u8], capacity: u32, place: u32, count: u32) {
+    print_bool(name, View::PLAIN.fits(capacity, Place(place), count));
+}
+
+fn example_fits(name: &[u8], capacity: u32, count: u32) {
+    let view = example();
+    print_bool(name, view.fits(capacity, Place(0), count));
+}
+
+fn runs() {
+    fits(b"fits_8_in_64", 64, 0, 8);
+    fits(b"fits_9_in_64", 64, 0, 9);
+    fits(b"fits_7_in_63", 63, 0, 7);
+    fits(b"fits_8_in_63", 63, 0, 8);
+    fits(b"fits_1_from_7", 64, 7, 1);
+    fits(b"fits_1_from_8", 64, 8, 1);
+    fits(b"fits_0_from_0", 8, 0, 0);
+    fits(b"fits_0_from_8", 64, 8, 0);
+    fits(b"fits_0_from_4294967295", 8, 4294967295, 0);
+    fits(b"fits_1_from_4294967295", 65536, 4294967295, 1);
+    fits(
         b"fits_4294967295_from_4294967295",
-        View::PLAIN,
         65536,
         4294967295,
         4294967295,
     );
-    print_fits(b"fits_2_from_536870912", View::PLAIN, 65536, 536870912, 2);
-    print_fits(b"fits_4_in_60_of_example", example(), 60, 0, 4);
-    print_fits(b"fits_4_in_59_of_example", example(), 59, 0, 4);
+    fits(b"fits_2_from_536870912", 65536, 536870912, 2);
+    example_fits(b"fits_4_in_60_of_example", 60, 4);
+    example_fits(b"fits_4_in_59_of_example", 59, 4);
+}
+
+fn ends() {
     print_end(b"end_of_24", 24);
     print_end(b"end_of_31", 31);
     print_end(b"end_of_7", 7);
@@ -232,8 +238,12 @@ fn runs_and_ends() {
 }
 
 fn main() {
+    positions_in_example();
     positions();
+    sums_of_lengths();
     rules_of_numbers();
+    rules_of_use();
     rules_of_blocks();
-    runs_and_ends();
+    runs();
+    ends();
 }
