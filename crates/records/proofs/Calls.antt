@@ -33,7 +33,7 @@ use Rattle.steps.proofs.Keeps.{record-ends, writer-fits}
 use Rattle.steps.proofs.Stored.{region-at}
 use Rattle.refusals.specs.Refused.{refused}
 use Rattle.refusals.proofs.First.{at-lane, fails, meets-as, meets-refused, no-lane, not-open, passes}
-use Rattle.records.specs.declared.busy.Next.{Next}
+use Rattle.records.specs.declared.phases.Next.{Next}
 use Rattle.records.specs.Records.{nextOf, nextRead, nextWrite, recordIn}
 
 -- ---- what a decision says of the phase

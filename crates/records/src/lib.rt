@@ -19,10 +19,10 @@ use steps::Outcome;
 use view::Place;
 use view::View;
 
-mod busy;
 mod bytes;
+mod phases;
 
-use busy::Next;
+use phases::Next;
 
 // The larger of two sizes.
 fn larger(a: u32, b: u32) -> u32
@@ -78,7 +78,7 @@ pub fn write(line: Line, book: &mut [u8], lane: u8, content: u64) -> Outcome
     if line.lanes <= lane {
         return refuse(line, 8);
     }
-    let Next::Record { place, after } = busy::next_write(phase_at(line, lane)) else {
+    let Next::Record { place, after } = phases::next_write(phase_at(line, lane)) else {
         return refuse(line, 13);
     };
     let view = line.view;
@@ -104,7 +104,7 @@ pub fn read(line: Line, book: &[u8], lane: u8) -> Outcome
     if line.lanes <= lane {
         return refuse(line, 8);
     }
-    let Next::Record { place, after } = busy::next_read(phase_at(line, lane)) else {
+    let Next::Record { place, after } = phases::next_read(phase_at(line, lane)) else {
         return refuse(line, 13);
     };
     let view = line.view;
@@ -124,7 +124,7 @@ pub fn put(line: Line, book: &mut [u8], lane: u8, place: Place, content: u64) ->
     if line.lanes <= lane {
         return refuse(line, 8);
     }
-    if !busy::holds_whole(phase_at(line, lane)) {
+    if !phases::holds_whole(phase_at(line, lane)) {
         return refuse(line, 13);
     }
     let view = line.view;
@@ -153,7 +153,7 @@ pub fn look(line: Line, book: &[u8], lane: u8, place: Place) -> Outcome
     if line.lanes <= lane {
         return refuse(line, 8);
     }
-    if !busy::holds_whole(phase_at(line, lane)) {
+    if !phases::holds_whole(phase_at(line, lane)) {
         return refuse(line, 13);
     }
     let view = line.view;
