@@ -33,7 +33,7 @@ use Rattle.steps.proofs.Keeps.{record-ends, writer-fits}
 use Rattle.steps.proofs.Stored.{region-at}
 use Rattle.refusals.specs.Refused.{refused}
 use Rattle.refusals.proofs.First.{at-lane, fails, meets-as, meets-refused, no-lane, not-open, passes}
-use Rattle.records.specs.declared.busy.Next.{Next}
+use Rattle.records.specs.declared.phases.Next.{Next}
 use Rattle.records.specs.Records.{nextOf, nextRead, nextWrite, recordIn}
 
 -- ---- what a decision says of the phase
@@ -108,25 +108,22 @@ module _ (l : Line) (book : List ℕ) (shape : Shaped l) (ok : sound l (length b
         let is = writing-is (phaseAt l i) (a .is) in
         fits-in k p q (rw (a .place) at (writer-fits l (good .facts) (numbers .view) i (leftIn (phaseAt l i)) (placeIn (phaseAt l i)) is))
 
-    -- ---- the accepted calls
-    pub write-meets : (content : ℕ) (k : Place) (y : Phase) (p : Position) (size : ℕ) (bytes : List ℕ)
-        → nextWrite (phaseAt l i) ≡ Next.Record k y → p ≡ positionOf (l .view) k → size ≡ max (l .size) (p .0 + 8) → bytes ≡ sets book (p .0) (bigEndian 8 content)
-        → Meets (callEvent (stateOf l book) (Event.Write i content)) (record { line = withPhase (withSize l size) i y; answer = Answer.Wrote p }) bytes
-    write-meets content k y p size bytes e q s b =
+    -- ---- the accepted calls; `next` is the line with the lane's phase after the record
+    pub write-meets : (content : ℕ) (k : Place) (y : Phase) (p : Position) (bytes : List ℕ) (next : Line) (size : ℕ) → nextWrite (phaseAt l i) ≡ Next.Record k y
+        → p ≡ positionOf (l .view) k → bytes ≡ sets book (p .0) (bigEndian 8 content) → next ≡ withPhase l i y → size ≡ max (l .size) (p .0 + 8)
+        → Meets (callEvent (stateOf l book) (Event.Write i content)) (record { line = withSize next size; answer = Answer.Wrote p }) bytes
+    write-meets content k y p bytes next size e q b t s =
         let a = next-record (isWriting (phaseAt l i)) (phaseAt l i) k y e in
         meets-as (write-chain nextLane (stateOf l book) i content ∙ at-lane l book ok i _ h ∙ passes l book 13 _ (a .is))
-        (record {
-          answer = rw (a .place, q);
-          line = rw (a .place, a .after, s, q);
-          book = rw (a .place) (rw q at b);
-        })
+        (record { answer = rw (a .place, q); line = rw (a .place, a .after, t, s, q); book = rw (a .place) (rw q at b) })
 
-    pub read-meets : (k : Place) (y : Phase) (answer : Answer) → nextRead (phaseAt l i) ≡ Next.Record k y → answer ≡ recordIn (l .view) (l .size) book k
-        → Meets (callEvent (stateOf l book) (Event.Read i)) (record { line = withPhase l i y; answer = answer }) book
-    read-meets k y answer e r =
+    pub read-meets : (k : Place) (y : Phase) (answer : Answer) (next : Line) → nextRead (phaseAt l i) ≡ Next.Record k y
+        → answer ≡ recordIn (l .view) (l .size) book k → next ≡ withPhase l i y
+        → Meets (callEvent (stateOf l book) (Event.Read i)) (record { line = next; answer = answer }) book
+    read-meets k y answer next e r t =
         let a = next-record (isReading (phaseAt l i)) (phaseAt l i) k y e in
         meets-as (read-chain nextLane (stateOf l book) i ∙ at-lane l book ok i _ h ∙ passes l book 13 _ (a .is))
-        (record { answer = rw (a .place) r; line = rw (a .after); book = refl })
+        (record { answer = rw (a .place) r; line = rw (a .after) t; book = refl })
 
     pub put-meets : (k : Place) (content : ℕ) (p : Position) (size : ℕ) (bytes : List ℕ)
         → holdsWhole (phaseAt l i) ≡ true → fits (l .view) (l .capacity) k 1 ≡ true → p ≡ positionOf (l .view) k → size ≡ max (l .size) (p .0 + 8)

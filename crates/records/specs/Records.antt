@@ -12,7 +12,7 @@ use Rattle.line.specs.Line.{isReading, isWriting, placeIn}
 use Rattle.event.specs.BigEndian.{numberOf}
 use Rattle.steps.specs.Effects.{oneLess}
 use Rattle.steps.specs.declared.Answer.{Answer}
-use Rattle.records.specs.declared.busy.Next.{Next}
+use Rattle.records.specs.declared.phases.Next.{Next}
 
 -- the next record of a busy lane and the phase after it
 abbrev pub nextOf : Phase → Next

@@ -1,25 +1,28 @@
 // The calls on records: 05 write, 06 read, 07 put and 08 look. The line handed to them is sound: the entries test that.
-ghost use Prim.Native.Nat.{_≤_, max};
+ghost use Prim.Native.Nat.{_≤_, _<_, max};
 ghost use mathlib.Core.Bool.{true};
 ghost use mathlib.Core.Path.{_≡_};
 ghost use lib.ListN.{length};
+ghost use Rattle.line.specs.Line.{phaseAt};
 ghost use Rattle.line.specs.Sound.{sound};
 ghost use Rattle.event.specs.declared.Event.{Event};
+ghost use Rattle.steps.specs.State.{withPhase};
 ghost use Rattle.steps.specs.Meets.{Meets, stateOf};
 ghost use Rattle.steps.specs.Step.{callEvent};
 ghost use Rattle.records.specs.Records.{recordIn};
 use line::Lane;
 use line::Line;
+use line::Phase;
 use refusals::refuse;
 use steps::Answer;
 use steps::Outcome;
 use view::Place;
 use view::View;
 
-mod busy;
 mod bytes;
+mod phases;
 
-use busy::Next;
+use phases::Next;
 
 // The larger of two sizes.
 fn larger(a: u32, b: u32) -> u32
@@ -29,6 +32,25 @@ fn larger(a: u32, b: u32) -> u32
         return b;
     }
     a
+}
+
+// A lane's phase.
+fn phase_at(line: Line, lane: u8) -> Phase
+    requires { ⌜ lane < 64 ⌝ }
+    ensures { λ r. ⌜ r ≡ phaseAt line lane ⌝ }
+{
+    let own = line.lane[lane as usize];
+    own.phase
+}
+
+// The line with another phase for a lane.
+fn with_phase(line: Line, lane: u8, phase: Phase) -> Line
+    requires { ⌜ lane < 64 ⌝ }
+    ensures { λ r. ⌜ r ≡ withPhase line lane phase ⌝ }
+{
+    let mut next = line;
+    next.lane[lane as usize] = Lane { phase };
+    next
 }
 
 // The record at a place, or none where it ends past the size.
@@ -56,18 +78,14 @@ pub fn write(line: Line, book: &mut [u8], lane: u8, content: u64) -> Outcome
     if line.lanes <= lane {
         return refuse(line, 8);
     }
-    let i = lane as usize;
-    let own = line.lane[i];
-    let phase = own.phase;
-    let Next::Record { place, after } = busy::next_write(phase) else {
+    let Next::Record { place, after } = phases::next_write(phase_at(line, lane)) else {
         return refuse(line, 13);
     };
     let view = line.view;
     let position = view.position(place);
     let at = position.0 as usize;
     bytes::store_record(book, at, content);
-    let mut next = line;
-    next.lane[i] = Lane { phase: after };
+    let mut next = with_phase(line, lane, after);
     next.size = larger(line.size, at as u32 + 8);
     Outcome {
         line: next,
@@ -86,16 +104,12 @@ pub fn read(line: Line, book: &[u8], lane: u8) -> Outcome
     if line.lanes <= lane {
         return refuse(line, 8);
     }
-    let i = lane as usize;
-    let own = line.lane[i];
-    let phase = own.phase;
-    let Next::Record { place, after } = busy::next_read(phase) else {
+    let Next::Record { place, after } = phases::next_read(phase_at(line, lane)) else {
         return refuse(line, 13);
     };
     let view = line.view;
     let answer = record_at(view, line.size, book, place);
-    let mut next = line;
-    next.lane[i] = Lane { phase: after };
+    let next = with_phase(line, lane, after);
     Outcome { line: next, answer }
 }
 
@@ -110,9 +124,7 @@ pub fn put(line: Line, book: &mut [u8], lane: u8, place: Place, content: u64) ->
     if line.lanes <= lane {
         return refuse(line, 8);
     }
-    let own = line.lane[lane as usize];
-    let phase = own.phase;
-    if !busy::holds_whole(phase) {
+    if !phases::holds_whole(phase_at(line, lane)) {
         return refuse(line, 13);
     }
     let view = line.view;
@@ -141,9 +153,7 @@ pub fn look(line: Line, book: &[u8], lane: u8, place: Place) -> Outcome
     if line.lanes <= lane {
         return refuse(line, 8);
     }
-    let own = line.lane[lane as usize];
-    let phase = own.phase;
-    if !busy::holds_whole(phase) {
+    if !phases::holds_whole(phase_at(line, lane)) {
         return refuse(line, 13);
     }
     let view = line.view;

@@ -1,6 +1,6 @@
 -- `put` meets its contract: the tests in order, then the record at the place, which fits.
 use Prim.Native.Nat.{_+_, _≤_, _<_}
-use mathlib.Core.Path.{_≡_, sym, _∙_}
+use mathlib.Core.Path.{_≡_, sym, ap, _∙_}
 use native.Mathlib.Omega.{arith}
 use lib.ListN.{length}
 use borrow.Author.Tests.{not-false, not-true}
@@ -15,16 +15,16 @@ use borrow.Author.Needs.{needs}
 use Rattle.records.proofs.put.Statement.{statement}
 use Rattle.records.proofs.put.Tie as tie
 
-shape : (c : tie.Start) → Shaped (c .args .t1)
-shape c = shape-of (c .args .t1) (c .good .0)
+shape : (c : tie.Start) → Shaped (c .args .line)
+shape c = shape-of (c .args .line) (c .good .0)
 
 refuse-requires : tie.Need-refuse-requires
 refuse-requires c κs = search needs
 
 returns : tie.Need-returns
 returns c =
-    let s = c .before .before .before in
-    let l = s .args .t1 in
+    let s = c .before .before .before .before in
+    let l = s .args .line in
     let book = s .args .book .now in
     refused-4 l book (s .pre) _ (put-chain nextLane (stateOf l book) (s .args .lane) (s .args .place) (s .args .content)) (c .before .if1 .taken) (c .refuse .ensures)
 
@@ -33,25 +33,27 @@ refuse-requires-2 c κs = search needs
 
 returns-2 : tie.Need-returns-2
 returns-2 c =
-    let s = c .before .before .before .before in
-    let l = s .args .t1 in
+    let e1 = c .before .before .before in
+    let s = e1 .before .before .before in
+    let l = s .args .line in
     let book = s .args .book .now in
-    refused-8 l book (s .pre) (s .args .lane) _ (put-chain nextLane (stateOf l book) (s .args .lane) (s .args .place) (s .args .content)) (c .before .before .if1 .left) (c .before .if2 .taken) (c .refuse2 .ensures)
-
-mul-own : tie.Need-mul-own
-mul-own c = search needs
+    refused-8 l book (s .pre) (s .args .lane) _ (put-chain nextLane (stateOf l book) (s .args .lane) (s .args .place) (s .args .content)) (e1 .if1 .left) (c .before .if2 .taken) (c .refuse2 .ensures)
 
 -- the lane's number is below that of the lanes that there could be
-in-lanes : (c : tie.Else2) → c .before .before .before .args .lane < 64
+in-lanes : (c : tie.Else2) → c .before .before .before .before .before .args .lane < 64
 in-lanes c =
-    let s = c .before .before .before in
-    index-in (s .args .t1) (s .args .book .now) (shape s) (s .pre) (s .args .lane) (c .if2 .left)
+    let s = c .before .before .before .before .before in
+    index-in (s .args .line) (s .args .book .now) (shape s) (s .pre) (s .args .lane) (c .if2 .left)
 
-element-copy-out-own : tie.Need-element-copy-out-own
-element-copy-out-own c = in-lanes c
+phase-at-requires : tie.Need-phase-at-requires
+phase-at-requires c κs = in-lanes c
 
 holds-whole-requires : tie.Need-holds-whole-requires
 holds-whole-requires c κs = search needs
+
+-- whether the lane holds the whole book is by its phase
+whole : (c : tie.After-holds-whole) → holdsWhole (phaseAt (c .before .before .before .before .before .before .before .args .line) (c .before .before .before .before .before .before .before .args .lane)) ≡ c .holds-whole .result
+whole c = sym (c .holds-whole .ensures ∙ ap holdsWhole (c .before .phase-at .ensures))
 
 refuse-requires-3 : tie.Need-refuse-requires-3
 refuse-requires-3 c κs = search needs
@@ -60,11 +62,11 @@ returns-3 : tie.Need-returns-3
 returns-3 c =
     let called = c .before .before in
     let e2 = called .before .before in
-    let s = e2 .before .before .before in
-    let l = s .args .t1 in
+    let s = e2 .before .before .before .before .before in
+    let l = s .args .line in
     let book = s .args .book .now in
     refused-at l book (s .pre) 13 (s .args .lane) (holdsWhole (phaseAt l (s .args .lane))) _ (put-chain nextLane (stateOf l book) (s .args .lane) (s .args .place) (s .args .content)) (e2 .if2 .left)
-    (sym (called .holds-whole .ensures) ∙ not-true _ (c .before .if3 .taken)) (c .refuse3 .ensures)
+    (whole called ∙ not-true _ (c .before .if3 .taken)) (c .refuse3 .ensures)
 
 fits-requires : tie.Need-fits-requires
 fits-requires c κs = search needs
@@ -77,21 +79,21 @@ returns-4 c =
     let asked = c .before .before in
     let e3 = asked .before .before in
     let e2 = e3 .before .before .before in
-    let s = e2 .before .before .before in
-    put-overfills (s .args .t1) (s .args .book .now) (shape s) (s .pre) (s .args .lane) (e2 .if2 .left) (s .args .place) (s .args .content) (c .refuse4 .result)
-    (sym (e3 .before .holds-whole .ensures) ∙ not-false _ (e3 .if3 .left)) (sym (asked .fits2 .ensures) ∙ not-true _ (c .before .if4 .taken)) (c .refuse4 .ensures)
+    let s = e2 .before .before .before .before .before in
+    put-overfills (s .args .line) (s .args .book .now) (shape s) (s .pre) (s .args .lane) (e2 .if2 .left) (s .args .place) (s .args .content) (c .refuse4 .result)
+    (whole (e3 .before) ∙ not-false _ (e3 .if3 .left)) (sym (asked .fits2 .ensures) ∙ not-true _ (c .before .if4 .taken)) (c .refuse4 .ensures)
 
 position-requires : tie.Need-position-requires
 position-requires c κs = search needs
 
 -- the record lies within the book
 within : (c : tie.After-position) →
-    (c .position .result .0 + 8 ≤ length (c .before .before .before .before .before .before .before .before .before .before .args .book .now)) × (c .position .result .0 + 8 ≤ 65536)
+    (c .position .result .0 + 8 ≤ length (c .before .before .before .before .before .before .before .before .before .before .before .before .args .book .now)) × (c .position .result .0 + 8 ≤ 65536)
 within c =
     let e4 = c .before in
     let e2 = e4 .before .before .before .before .before .before in
-    let s = e2 .before .before .before in
-    fits-in (s .args .t1) (s .args .book .now) (shape s) (s .pre) (s .args .lane) (e2 .if2 .left) (s .args .place) (c .position .result) (c .position .ensures)
+    let s = e2 .before .before .before .before .before in
+    fits-in (s .args .line) (s .args .book .now) (shape s) (s .pre) (s .args .lane) (e2 .if2 .left) (s .args .place) (c .position .result) (c .position .ensures)
     (sym (e4 .before .fits2 .ensures) ∙ not-false _ (e4 .if4 .left))
 
 store-record-requires : tie.Need-store-record-requires
@@ -116,9 +118,9 @@ returns-5 c =
     let e4 = found .before in
     let e3 = e4 .before .before .before in
     let e2 = e3 .before .before .before in
-    let s = e2 .before .before .before in
-    put-meets (s .args .t1) (s .args .book .now) (shape s) (s .pre) (s .args .lane) (e2 .if2 .left) (s .args .place) (s .args .content) (found .position .result) (c .larger .result) _
-    (sym (e3 .before .holds-whole .ensures) ∙ not-false _ (e3 .if3 .left)) (sym (e4 .before .fits2 .ensures) ∙ not-false _ (e4 .if4 .left)) (found .position .ensures)
+    let s = e2 .before .before .before .before .before in
+    put-meets (s .args .line) (s .args .book .now) (shape s) (s .pre) (s .args .lane) (e2 .if2 .left) (s .args .place) (s .args .content) (found .position .result) (c .larger .result) _
+    (whole (e3 .before) ∙ not-false _ (e3 .if3 .left)) (sym (e4 .before .fits2 .ensures) ∙ not-false _ (e4 .if4 .left)) (found .position .ensures)
     (c .larger .ensures) (stored .store-record .ensures)
 
 pub put-spec : {M : Type 1} → statement M
@@ -129,8 +131,7 @@ put-spec =
     returns
     refuse-requires-2
     returns-2
-    mul-own
-    element-copy-out-own
+    phase-at-requires
     holds-whole-requires
     refuse-requires-3
     returns-3

@@ -1,8 +1,8 @@
 -- `holds_whole` meets its contract: by the phase, then by the purpose.
 use Rattle.records.proofs.Other.{not-holding}
 use borrow.Author.Needs.{needs}
-use Rattle.records.proofs.busy.holds_whole.Statement.{statement}
-use Rattle.records.proofs.busy.holds_whole.Tie as tie
+use Rattle.records.proofs.phases.holds_whole.Statement.{statement}
+use Rattle.records.proofs.phases.holds_whole.Tie as tie
 
 enum-known-phase : tie.Need-enum-known-phase
 enum-known-phase c = search needs

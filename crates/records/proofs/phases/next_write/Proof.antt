@@ -2,8 +2,8 @@
 use mathlib.Core.Path.{_≡_}
 use Rattle.records.proofs.Other.{not-writing}
 use borrow.Author.Needs.{needs}
-use Rattle.records.proofs.busy.next_write.Statement.{statement}
-use Rattle.records.proofs.busy.next_write.Tie as tie
+use Rattle.records.proofs.phases.next_write.Statement.{statement}
+use Rattle.records.proofs.phases.next_write.Tie as tie
 
 enum-known-phase : tie.Need-enum-known-phase
 enum-known-phase c = search needs

@@ -4,8 +4,8 @@ use mathlib.Core.Path.{_≡_}
 use native.Mathlib.Omega.{arith}
 use borrow.Author.Tests.{eq-eqb, ne-eqb}
 use borrow.Author.Needs.{needs}
-use Rattle.records.proofs.busy.after_read.Statement.{statement}
-use Rattle.records.proofs.busy.after_read.Tie as tie
+use Rattle.records.proofs.phases.after_read.Statement.{statement}
+use Rattle.records.proofs.phases.after_read.Tie as tie
 
 returns : tie.Need-returns
 returns c =
