@@ -1,4 +1,4 @@
-// The entries: a function for each call, one that takes an event. None requires anything: an unsound line is refused with 1.
+// The entries: a function for each call, and one that takes an event. None requires anything: an unsound line is refused with 1.
 ghost use mathlib.Core.Path.{_≡_};
 ghost use Rattle.event.specs.declared.Event.{Event};
 ghost use Rattle.steps.specs.Meets.{Meets, stateOf};
@@ -136,4 +136,44 @@ pub fn seek(line: Line, book: &[u8], whence: u8, offset: i32) -> Outcome
         return refuse(line, 1);
     }
     setup::seek(line, book, whence, offset)
+}
+
+// A call given as an event; an event of an unlisted kind is refused with 2.
+pub fn call_event(line: Line, book: &mut [u8], event: Event) -> Outcome
+    ensures { λ r. ⌜ Meets (callEvent (stateOf line (now (book .entry))) event) r (now (book .exit)) ⌝ }
+{
+    match event {
+        Event::Open { lanes, capacity } => open(line, book, lanes, capacity),
+        Event::Want { lane, purpose } => want(line, book, lane, purpose),
+        Event::Receive { lane } => receive(line, book, lane),
+        Event::Take { lane, count } => take(line, book, lane, count),
+        Event::Write { lane, content } => write(line, book, lane, content),
+        Event::Read { lane } => read(line, book, lane),
+        Event::Put {
+            lane,
+            place,
+            content,
+        } => put(line, book, lane, place, content),
+        Event::Look { lane, place } => look(line, book, lane, place),
+        Event::Free { lane } => free(line, book, lane),
+        Event::Enter { lane, count } => enter(line, book, lane, count),
+        Event::View {
+            displacement,
+            extent,
+            used,
+            blocks,
+        } => { set_view(line, book, displacement, extent, used, blocks) }
+        Event::Seek { whence, offset } => seek(line, book, whence, offset),
+        Event::Unlisted => unlisted(line, book),
+    }
+}
+
+// A call of an unlisted kind.
+fn unlisted(line: Line, book: &[u8]) -> Outcome
+    ensures { λ r. ⌜ Meets (callEvent (stateOf line (now (book .entry))) Event.Unlisted) r (now (book .entry)) ⌝ }
+{
+    if !is_sound(line, book.len()) {
+        return refuse(line, 1);
+    }
+    refuse(line, 2)
 }

@@ -1,0 +1,33 @@
+-- The entry `open` meets its contract: an unsound line is refused with 1, and a sound one goes to the call.
+use mathlib.Core.Path.{sym, _∙_}
+use borrow.Author.Needs.{needs}
+use borrow.Author.Tests.{not-false, not-true}
+use Rattle.calls.proofs.Unsound.{unsound}
+use Rattle.calls.proofs.open.Statement.{statement}
+use Rattle.calls.proofs.open.Tie as tie
+
+is-sound-requires : tie.Need-is-sound-requires
+is-sound-requires c κs = search needs
+
+refuse-requires : tie.Need-refuse-requires
+refuse-requires c κs = search needs
+
+returns : tie.Need-returns
+returns c =
+    let tested = c .before .before in
+    let s = tested .before .before in
+    unsound (s .args .line) (s .args .book .now) _ _ (sym (tested .is-sound .ensures) ∙ not-true _ (c .before .if1 .taken)) (c .refuse .ensures)
+
+open-requires : tie.Need-open-requires
+open-requires c κs = sym (c .before .before .is-sound .ensures) ∙ not-false _ (c .before .if1 .left)
+
+same-length : tie.Need-same-length
+same-length c = search needs
+
+returns-2 : tie.Need-returns-2
+returns-2 c = search needs
+
+pub open-spec : {M : Type 1} → statement M
+open-spec =
+    tie.close
+    (tie.spec is-sound-requires refuse-requires returns open-requires same-length returns-2)
