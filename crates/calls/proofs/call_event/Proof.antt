@@ -1,229 +1,170 @@
+-- `call_event` meets its contract: each case is a call of its own.
+use mir.Facts.{toZ-ofZ}
+use mir.Syntax.{w32}
+use mir.Val.{SFits}
 use borrow.Author.Needs.{needs}
 use Rattle.calls.proofs.call_event.Statement.{statement}
 use Rattle.calls.proofs.call_event.Tie as tie
-use Rattle.calls.proofs.call_event.Reads as reads
-use Rattle.calls.proofs.call_event.Lts as lts
-use Rattle.calls.proofs.enter.Reads as enter-reads
-use Rattle.calls.proofs.free.Reads as free-reads
-use Rattle.calls.proofs.look.Reads as look-reads
-use Rattle.calls.proofs.open.Reads as open-reads
-use Rattle.calls.proofs.put.Reads as put-reads
-use Rattle.calls.proofs.read.Reads as read-reads
-use Rattle.calls.proofs.receive.Reads as receive-reads
-use Rattle.calls.proofs.seek.Reads as seek-reads
-use Rattle.calls.proofs.set_view.Reads as set-view-reads
-use Rattle.calls.proofs.take.Reads as take-reads
-use Rattle.calls.proofs.unlisted.Reads as unlisted-reads
-use Rattle.calls.proofs.want.Reads as want-reads
-use Rattle.calls.proofs.write.Reads as write-reads
 
--- src/lib.rt:146:23
 enum-known-event : tie.Need-enum-known-event
 enum-known-event c = search needs
 
--- src/lib.rt:146:44
 open-requires : tie.Need-open-requires
 open-requires c κs = search needs
 
--- src/lib.rt:147:23
 enum-known-event-2 : tie.Need-enum-known-event-2
 enum-known-event-2 c = search needs
 
--- src/lib.rt:147:42
 want-requires : tie.Need-want-requires
 want-requires c κs = search needs
 
--- src/lib.rt:148:26
 enum-known-event-3 : tie.Need-enum-known-event-3
 enum-known-event-3 c = search needs
 
--- src/lib.rt:148:36
 receive-requires : tie.Need-receive-requires
 receive-requires c κs = search needs
 
--- src/lib.rt:149:23
 enum-known-event-4 : tie.Need-enum-known-event-4
 enum-known-event-4 c = search needs
 
--- src/lib.rt:149:40
 take-requires : tie.Need-take-requires
 take-requires c κs = search needs
 
--- src/lib.rt:150:24
 enum-known-event-5 : tie.Need-enum-known-event-5
 enum-known-event-5 c = search needs
 
--- src/lib.rt:150:43
 write-requires : tie.Need-write-requires
 write-requires c κs = search needs
 
--- src/lib.rt:151:23
 enum-known-event-6 : tie.Need-enum-known-event-6
 enum-known-event-6 c = search needs
 
--- src/lib.rt:151:33
 read-requires : tie.Need-read-requires
 read-requires c κs = search needs
 
--- src/lib.rt:153:13
 enum-known-event-7 : tie.Need-enum-known-event-7
 enum-known-event-7 c = search needs
 
--- src/lib.rt:156:14
 put-requires : tie.Need-put-requires
 put-requires c κs = search needs
 
--- src/lib.rt:157:23
 enum-known-event-8 : tie.Need-enum-known-event-8
 enum-known-event-8 c = search needs
 
--- src/lib.rt:157:40
 look-requires : tie.Need-look-requires
 look-requires c κs = search needs
 
--- src/lib.rt:158:23
 enum-known-event-9 : tie.Need-enum-known-event-9
 enum-known-event-9 c = search needs
 
--- src/lib.rt:158:33
 free-requires : tie.Need-free-requires
 free-requires c κs = search needs
 
--- src/lib.rt:159:24
 enum-known-event-10 : tie.Need-enum-known-event-10
 enum-known-event-10 c = search needs
 
--- src/lib.rt:159:41
 enter-requires : tie.Need-enter-requires
 enter-requires c κs = search needs
 
--- src/lib.rt:161:13
 enum-known-event-11 : tie.Need-enum-known-event-11
 enum-known-event-11 c = search needs
 
--- src/lib.rt:165:16
 set-view-requires : tie.Need-set-view-requires
 set-view-requires c κs = search needs
 
--- src/lib.rt:166:23
 enum-known-event-12 : tie.Need-enum-known-event-12
 enum-known-event-12 c = search needs
 
--- src/lib.rt:166:43
 seek-requires : tie.Need-seek-requires
 seek-requires c κs = search needs
 
--- src/lib.rt:167:43
 enum-told : tie.Need-enum-told
 enum-told c = search needs
 
--- src/lib.rt:167:28
 unlisted-requires : tie.Need-unlisted-requires
 unlisted-requires c κs = search needs
 
--- src/lib.rt:142:1
 same-length : tie.Need-same-length
 same-length c = search needs
 
--- src/lib.rt:142:1
 returns : tie.Need-returns
-returns c = ?
+returns c = rw (c .before .before .before .before .before .event .given .1) (c .before .before .open .ensures)
 
--- src/lib.rt:142:1
 same-length-2 : tie.Need-same-length-2
 same-length-2 c = search needs
 
--- src/lib.rt:142:1
 returns-2 : tie.Need-returns-2
-returns-2 c = ?
+returns-2 c = rw (c .before .before .before .event2 .given .1) (c .want .ensures)
 
--- src/lib.rt:142:1
 same-length-3 : tie.Need-same-length-3
 same-length-3 c = search needs
 
--- src/lib.rt:142:1
 returns-3 : tie.Need-returns-3
-returns-3 c = ?
+returns-3 c = rw (c .before .before .before .event3 .given .1) (c .receive .ensures)
 
--- src/lib.rt:142:1
 same-length-4 : tie.Need-same-length-4
 same-length-4 c = search needs
 
--- src/lib.rt:142:1
 returns-4 : tie.Need-returns-4
-returns-4 c = ?
+returns-4 c = rw (c .before .before .before .event4 .given .1) (c .take .ensures)
 
--- src/lib.rt:142:1
 same-length-5 : tie.Need-same-length-5
 same-length-5 c = search needs
 
--- src/lib.rt:142:1
 returns-5 : tie.Need-returns-5
-returns-5 c = ?
+returns-5 c = rw (c .before .before .before .before .before .event5 .given .1) (c .before .before .write .ensures)
 
--- src/lib.rt:142:1
 same-length-6 : tie.Need-same-length-6
 same-length-6 c = search needs
 
--- src/lib.rt:142:1
 returns-6 : tie.Need-returns-6
-returns-6 c = ?
+returns-6 c = rw (c .before .before .before .event6 .given .1) (c .read .ensures)
 
--- src/lib.rt:142:1
 same-length-7 : tie.Need-same-length-7
 same-length-7 c = search needs
 
--- src/lib.rt:142:1
 returns-7 : tie.Need-returns-7
-returns-7 c = ?
+returns-7 c = rw (c .before .before .before .before .before .event7 .given .1) (c .before .before .put .ensures)
 
--- src/lib.rt:142:1
 same-length-8 : tie.Need-same-length-8
 same-length-8 c = search needs
 
--- src/lib.rt:142:1
 returns-8 : tie.Need-returns-8
-returns-8 c = ?
+returns-8 c = rw (c .before .before .before .event8 .given .1) (c .look .ensures)
 
--- src/lib.rt:142:1
 same-length-9 : tie.Need-same-length-9
 same-length-9 c = search needs
 
--- src/lib.rt:142:1
 returns-9 : tie.Need-returns-9
-returns-9 c = ?
+returns-9 c = rw (c .before .before .before .event9 .given .1) (c .free .ensures)
 
--- src/lib.rt:142:1
 same-length-10 : tie.Need-same-length-10
 same-length-10 c = search needs
 
--- src/lib.rt:142:1
 returns-10 : tie.Need-returns-10
-returns-10 c = ?
+returns-10 c = rw (c .before .before .before .event10 .given .1) (c .enter .ensures)
 
--- src/lib.rt:142:1
 same-length-11 : tie.Need-same-length-11
 same-length-11 c = search needs
 
--- src/lib.rt:142:1
 returns-11 : tie.Need-returns-11
-returns-11 c = ?
+returns-11 c = rw (c .before .before .before .event11 .given .1) (c .set-view .ensures)
 
--- src/lib.rt:142:1
 same-length-12 : tie.Need-same-length-12
 same-length-12 c = search needs
 
--- src/lib.rt:142:1
 returns-12 : tie.Need-returns-12
-returns-12 c = ?
+returns-12 c =
+    let told = c .before .before .before in
+    let z = told .event12 .given .0 .1 .0 in
+    let fits : SFits w32 z = record { sfits = c .before .before .known-told12 .given .1 .0 .1 } in
+    rw (told .event12 .given .1) (rw (toZ-ofZ fits) at (c .seek .ensures))
 
--- src/lib.rt:142:1
 same-length-13 : tie.Need-same-length-13
 same-length-13 c = search needs
 
--- src/lib.rt:142:1
 returns-13 : tie.Need-returns-13
-returns-13 c = ?
+returns-13 c = rw (c .before .before .enum-told .given .1) (c .unlisted .ensures)
 
 pub call-event-spec : {M : Type 1} → statement M
 call-event-spec =
