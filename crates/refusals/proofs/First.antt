@@ -28,14 +28,14 @@ module _ (l : Line) (book : List ℕ) where
         book = sym (ap (λ (r : Result). r .after .book) e);
       }
 
-  -- a test that a call must pass
+  -- a test that a call has to pass
   pub fails : (k : ℕ) {b : Bool} (rest : Result) → b ≡ false → cond (not b) (refuse k (stateOf l book)) rest ≡ refuse k (stateOf l book)
   fails k rest e = rw e
 
   pub passes : (k : ℕ) {b : Bool} (rest : Result) → b ≡ true → cond (not b) (refuse k (stateOf l book)) rest ≡ rest
   passes k rest e = rw e
 
-  -- a test that a call must fail
+  -- a test that refuses the call where it holds
   pub stops : (k : ℕ) {b : Bool} (rest : Result) → b ≡ true → cond b (refuse k (stateOf l book)) rest ≡ refuse k (stateOf l book)
   stops k rest e = rw e
 
