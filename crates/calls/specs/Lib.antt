@@ -1,1 +1,2 @@
--- The contracts of the entries are those of `steps`.
+-- The outcome of a call whose bytes give no event; the other contracts are those of `steps`.
+pub mod Refused

@@ -1,10 +1,13 @@
-// The entries: a function for each call, and one that takes an event. None requires anything: an unsound line is refused with 1.
+// The entries: a function for each call, one that takes an event, and one that takes a kind and body bytes. None requires anything.
 ghost use mathlib.Core.Path.{_≡_};
+ghost use lib.ListN.{length};
 ghost use Rattle.event.specs.declared.Event.{Event};
 ghost use Rattle.steps.specs.Meets.{Meets, stateOf};
-ghost use Rattle.steps.specs.Step.{callEvent};
+ghost use Rattle.steps.specs.Step.{callBytes, callEvent};
+ghost use Rattle.calls.specs.Refused.{refusedBytes};
 use event::Blocks;
 use event::Event;
+use event::Reading;
 use line::Line;
 use refusals::refuse;
 use soundness::is_sound;
@@ -164,16 +167,27 @@ pub fn call_event(line: Line, book: &mut [u8], event: Event) -> Outcome
             blocks,
         } => { set_view(line, book, displacement, extent, used, blocks) }
         Event::Seek { whence, offset } => seek(line, book, whence, offset),
-        Event::Unlisted => unlisted(line, book),
+        Event::Unlisted => refuse_bytes(line, book, 2),
     }
 }
 
-// A call of an unlisted kind.
-fn unlisted(line: Line, book: &[u8]) -> Outcome
-    ensures { λ r. ⌜ Meets (callEvent (stateOf line (now (book .entry))) Event.Unlisted) r (now (book .entry)) ⌝ }
+// A call that has no event: refused with 1 on an unsound line, and else with the number of what is wrong with its bytes.
+fn refuse_bytes(line: Line, book: &[u8], number: u8) -> Outcome
+    ensures { λ r. ⌜ r ≡ refusedBytes line (length (now (book .entry))) number ⌝ }
 {
     if !is_sound(line, book.len()) {
         return refuse(line, 1);
     }
-    refuse(line, 2)
+    refuse(line, number)
+}
+
+// A call given as a kind and body bytes; bytes past the body are not looked at.
+pub fn call_bytes(line: Line, book: &mut [u8], kind: u8, body: &[u8]) -> Outcome
+    ensures { λ r. ⌜ Meets (callBytes (stateOf line (now (book .entry))) kind (now (body .entry))) r (now (book .exit)) ⌝ }
+{
+    match decode::read_body(kind, body, 0) {
+        Reading::Event { event, next: _ } => call_event(line, book, event),
+        Reading::End => refuse_bytes(line, book, 2),
+        Reading::Refused(number) => refuse_bytes(line, book, number),
+    }
 }

@@ -231,8 +231,8 @@ fn read_seek(sheet: &[u8], at: usize) -> Reading
     }
 }
 
-// The event of a kind whose body starts at an index.
-fn read_body(kind: u8, sheet: &[u8], at: usize) -> Reading
+// The event of a kind whose body starts at an index, or refusal 2 or 3.
+pub fn read_body(kind: u8, sheet: &[u8], at: usize) -> Reading
     ensures { λ r. ⌜ r ≡ bodyAt kind (now (sheet .entry)) at ⌝ }
 {
     match kind {

@@ -3,6 +3,7 @@ use mir.Facts.{toZ-ofZ}
 use mir.Syntax.{w32}
 use mir.Val.{SFits}
 use borrow.Author.Needs.{needs}
+use Rattle.calls.proofs.Unsound.{no-kind}
 use Rattle.calls.proofs.call_event.Statement.{statement}
 use Rattle.calls.proofs.call_event.Tie as tie
 
@@ -81,8 +82,8 @@ seek-requires c κs = search needs
 enum-told : tie.Need-enum-told
 enum-told c = search needs
 
-unlisted-requires : tie.Need-unlisted-requires
-unlisted-requires c κs = search needs
+refuse-bytes-requires : tie.Need-refuse-bytes-requires
+refuse-bytes-requires c κs = search needs
 
 same-length : tie.Need-same-length
 same-length c = search needs
@@ -164,7 +165,9 @@ same-length-13 : tie.Need-same-length-13
 same-length-13 c = search needs
 
 returns-13 : tie.Need-returns-13
-returns-13 c = rw (c .before .before .enum-told .given .1) (c .unlisted .ensures)
+returns-13 c =
+    let s = c .before .before .before .before .before in
+    rw (c .before .before .enum-told .given .1) (no-kind (s .args .line) (s .args .book .now) _ (c .refuse-bytes .ensures))
 
 pub call-event-spec : {M : Type 1} → statement M
 call-event-spec =
@@ -195,7 +198,7 @@ call-event-spec =
     enum-known-event-12
     seek-requires
     enum-told
-    unlisted-requires
+    refuse-bytes-requires
     same-length
     returns
     same-length-2
