@@ -4,8 +4,8 @@ use mathlib.Core.Path.{_≡_, refl, sym, ap, _∙_}
 use mathlib.Core.Bool.{Bool, true, false, cond}
 use mathlib.Core.List.{List}
 use native.Mathlib.Omega.{arith}
-use lib.ListN.{length, set}
-use lib.Dec.{eqb, leb}
+use lib.ListN.{length}
+use lib.Dec.{leb}
 use lib.Seq.{sets}
 use borrow.Author.Tests.{eqb-true, leb-true}
 use Rattle.lists.proofs.Counts.{all-getD}
@@ -15,7 +15,7 @@ use Rattle.view.specs.declared.Place.{Place}
 use Rattle.view.specs.declared.Position.{Position}
 use Rattle.line.specs.declared.Phase.{Phase}
 use Rattle.line.specs.declared.Line.{Line}
-use Rattle.line.specs.Line.{Shaped, holdsWhole, idleLane, isReading, isWriting, leftIn, mostPointer, on, phaseAt, placeIn}
+use Rattle.line.specs.Line.{Shaped, holdsWhole, idleLane, isReading, isWriting, leftIn, on, phaseAt, placeIn}
 use Rattle.line.specs.Sound.{regionOk, sound, valueOk}
 use Rattle.line.proofs.Facts.{Good, OpenNumbers, good-of, when-open}
 use Rattle.line.proofs.Phases.{writing-is}
@@ -32,7 +32,7 @@ use Rattle.steps.proofs.Chains.{look-chain, put-chain, read-chain, write-chain}
 use Rattle.steps.proofs.Keeps.{record-ends, writer-fits}
 use Rattle.steps.proofs.Stored.{region-at}
 use Rattle.refusals.specs.Refused.{refused}
-use Rattle.refusals.proofs.First.{at-lane, fails, meets-as, meets-refused, no-lane, not-open, passes}
+use Rattle.refusals.proofs.First.{at-lane, fails, meets-as, meets-refused, passes}
 use Rattle.records.specs.declared.phases.Next.{Next}
 use Rattle.records.specs.Records.{nextOf, nextRead, nextWrite, recordIn}
 

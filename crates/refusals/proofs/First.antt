@@ -1,6 +1,6 @@
 -- On a sound line the first tests of a call are 4 and, where it names a lane, 8: what the step is where each applies, and past them.
 use Prim.Native.Nat.{ℕ, _≤_, _<_}
-use mathlib.Core.Path.{_≡_, refl, sym, ap, _∙_, subst}
+use mathlib.Core.Path.{_≡_, sym, ap, _∙_, subst}
 use mathlib.Core.Bool.{Bool, true, false, cond, not}
 use mathlib.Core.List.{List}
 use native.Mathlib.Omega.{arith}
@@ -8,7 +8,7 @@ use lib.ListN.{length}
 use borrow.Author.Tests.{eq-eqb, le-leb, lt-leb, ne-eqb}
 use Rattle.line.specs.declared.Line.{Line}
 use Rattle.line.specs.Sound.{sound}
-use Rattle.steps.specs.State.{Result, State}
+use Rattle.steps.specs.State.{Result}
 use Rattle.steps.specs.Meets.{Meets, stateOf}
 use Rattle.steps.specs.Step.{refuse}
 use Rattle.steps.specs.declared.Outcome.{Outcome}

@@ -1,6 +1,6 @@
 -- The machine's sum of a base and a signed offset is that of the integers, and what the tests on it say of the place sought.
-use Prim.Native.Nat.{ℕ, zero, suc, _+_, _-_, _≤_, _<_, _^_}
-use mathlib.Core.Path.{_≡_, refl, sym, ap, _∙_}
+use Prim.Native.Nat.{ℕ, zero, suc, _+_, _-_, _<_, _^_}
+use mathlib.Core.Path.{_≡_, refl}
 use mathlib.Core.Bool.{Bool, true, false, cond}
 use native.Mathlib.Omega.{arith}
 use lib.IntN.{ℤ, pos, negsuc, _+ℤ_, natAbs}
@@ -9,11 +9,10 @@ use lib.Dec.{T, ltb}
 use mir.Syntax.{w32, w64}
 use mir.Val.{Fits, SFits, ofZ, toZ}
 use mir.Facts.{sfits-widen, toZ-ofZ, toZ-pos}
-use borrow.Author.Tests.{le-ltb, lt-ltb, ltb-false, ltb-true}
+use borrow.Author.Tests.{ltb-false, ltb-true}
 use Rattle.lists.proofs.Tests.{clash}
 use Rattle.view.specs.View.{place}
 use Rattle.view.specs.declared.Place.{Place}
-use Rattle.line.specs.Line.{mostPointer}
 use Rattle.setup.specs.declared.target.Sought.{Sought}
 use Rattle.setup.specs.Setup.{baseOf, soughtAt}
 

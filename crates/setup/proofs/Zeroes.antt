@@ -1,7 +1,7 @@
 -- A list with its first elements replaced by a value, and with one more.
 use Prim.Native.Nat.{ℕ, zero, suc, _+_, _<_}
-use mathlib.Core.Path.{_≡_, refl, sym, ap, _∙_}
-use mathlib.Core.List.{List, [], _∷_, _++_}
+use mathlib.Core.Path.{_≡_, refl, ap, _∙_}
+use mathlib.Core.List.{List, _∷_, _++_}
 use native.Mathlib.Numerals.{add-one}
 use lib.ListN.{drop, getD, length, length-replicate, replicate, set}
 use lib.Seq.{drop-cons, set-at}

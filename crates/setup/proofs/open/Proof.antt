@@ -1,5 +1,5 @@
 -- `open` meets its contract: the tests in order, then the zeroed bytes and the fresh line.
-use mathlib.Core.Path.{_≡_, sym, _∙_}
+use mathlib.Core.Path.{sym, _∙_}
 use borrow.Author.Tests.{not-false, not-true}
 use Rattle.setup.proofs.Calls.{capacity-held, open-5, open-6, open-7, open-meets}
 use borrow.Author.Needs.{needs}

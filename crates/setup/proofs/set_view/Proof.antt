@@ -1,5 +1,5 @@
 -- `set_view` meets its contract: the tests in order, then the view and the pointer.
-use mathlib.Core.Path.{_≡_, sym, _∙_}
+use mathlib.Core.Path.{sym, _∙_}
 use borrow.Author.Tests.{not-false, not-true}
 use Rattle.waitlist.specs.NextLane.{nextLane}
 use Rattle.steps.specs.Meets.{stateOf}

@@ -1,8 +1,8 @@
 -- `load_record` meets its contract: so far the number in the bytes passed, which has room for one byte more.
 use Prim.Native.Nat.{_-_, _^_, _≤_, _<_}
-use mathlib.Core.Path.{_≡_, refl, sym, _∙_}
+use mathlib.Core.Path.{_≡_, refl}
 use native.Mathlib.Omega.{arith}
-use lib.ListN.{drop, length, take}
+use lib.ListN.{drop, take}
 use Rattle.event.specs.BigEndian.{numberOf}
 use Rattle.records.proofs.Digits.{below-seven, number-more, room-for-byte}
 use borrow.Author.Needs.{needs}

@@ -1,5 +1,4 @@
 -- `next_read` meets its contract: by the phase.
-use mathlib.Core.Path.{_≡_}
 use Rattle.records.proofs.Other.{not-reading}
 use borrow.Author.Needs.{needs}
 use Rattle.records.proofs.phases.next_read.Statement.{statement}

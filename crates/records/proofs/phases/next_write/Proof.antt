@@ -1,5 +1,4 @@
 -- `next_write` meets its contract: by the phase.
-use mathlib.Core.Path.{_≡_}
 use Rattle.records.proofs.Other.{not-writing}
 use borrow.Author.Needs.{needs}
 use Rattle.records.proofs.phases.next_write.Statement.{statement}

@@ -1,6 +1,6 @@
 -- `zero_first` meets its contract: so far the bytes passed are zero and the others as they were.
 use Prim.Native.Nat.{_-_, _≤_, _<_}
-use mathlib.Core.Path.{_≡_, refl, _∙_}
+use mathlib.Core.Path.{_≡_, refl}
 use mathlib.Core.List.{_++_}
 use native.Mathlib.Omega.{arith}
 use lib.ListN.{drop, length, length-set, replicate}

@@ -1,5 +1,5 @@
 -- `all_idle` meets its contract: the lanes left are idle just if all are.
-use Prim.Native.Nat.{_-_, _≤_, _<_}
+use Prim.Native.Nat.{_-_}
 use mathlib.Core.Path.{_≡_, refl, sym, _∙_}
 use native.Mathlib.Omega.{arith}
 use lib.ListN.{drop, length}

@@ -1,7 +1,5 @@
 -- `moved_by` meets its contract: the machine's sum is the integers', and the tests are those of the definition.
 use Prim.Native.Nat.{_<_}
-use mathlib.Core.Path.{_≡_}
-use native.Mathlib.Omega.{arith}
 use lib.IntN.{ℤ, pos, _+ℤ_}
 use Rattle.setup.proofs.Sums.{above, below, cast-in, offset-fits, sum-in, sum-is, within}
 use borrow.Author.Needs.{needs}
