@@ -98,7 +98,7 @@ refused-call l book (given f) n k o q e =
     by-test (isListed (kindOf f))
     (λ t. let r : Reading.Event f (record { at = n }) ≡ Reading.Refused k = rw t at q in clash (ap isEvent r))
     (λ t. let r : Reading.Refused 2 ≡ Reading.Refused k = rw t at q in
-      let two : 2 ≡ k = ap (numberIn 2) r in
-      rw (not-listed f t) (no-kind l book o (rw two e)))
+    let two : 2 ≡ k = ap (numberIn 2) r in
+    rw (not-listed f t) (no-kind l book o (rw two e)))
 refused-call l book cutShort n k o q e =
     let three : 3 ≡ k = ap (numberIn 3) q in no-event l book cutShort 3 o (cut-chain nextLane (stateOf l book)) (rw three e)
