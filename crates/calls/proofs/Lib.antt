@@ -1,2 +1,3 @@
--- The law of a call on an unsound line.
+-- The laws behind the entries.
 pub mod Unsound
+pub mod Changed

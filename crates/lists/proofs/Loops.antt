@@ -6,7 +6,7 @@ use mathlib.Core.List.{List, [], _∷_}
 use native.Mathlib.Nat.{not-suc-le-zero, le-of-suc-le-suc}
 use lib.ListN.{drop, getD, length}
 use borrow.Author.Tests.{eq-eqb, ne-eqb}
-use Rattle.lists.specs.Lists.{all, bit, count, pairwise, sameNumbers, sumOf}
+use Rattle.lists.specs.Lists.{all, any, bit, count, pairwise, sameNumbers, sumOf}
 use Rattle.lists.proofs.Parts.{drop-more}
 
 pub drop-end : {A : Type 0} (l : List A) (i : ℕ) → length l ≤ i → drop i l ≡ []
@@ -24,6 +24,15 @@ module _ {A : Type 0} (p : A → Bool) (l : List A) (i : ℕ) (d : A) where
 
   pub all-more : i < length l → p (getD l i d) ≡ true → all p (drop i l) ≡ all p (drop (i + 1) l)
   all-more h e = rw (drop-more l i d h, e)
+
+  pub any-end : length l ≤ i → any p (drop i l) ≡ false
+  any-end h = rw (drop-end l i h)
+
+  pub any-here : i < length l → p (getD l i d) ≡ true → any p (drop i l) ≡ true
+  any-here h e = rw (drop-more l i d h, e)
+
+  pub any-more : i < length l → p (getD l i d) ≡ false → any p (drop i l) ≡ any p (drop (i + 1) l)
+  any-more h e = rw (drop-more l i d h, e)
 
   pub count-end : length l ≤ i → count p (drop i l) ≡ 0
   count-end h = rw (drop-end l i h)

@@ -3,39 +3,26 @@ ghost use Prim.Native.Nat.{_+_, _≤_};
 ghost use mathlib.Core.Bool.{true};
 ghost use mathlib.Core.Path.{_≡_};
 ghost use lib.ListN.{length};
-ghost use Rattle.view.specs.View.{place};
 ghost use Rattle.line.specs.Line.{mostPointer};
 ghost use Rattle.line.specs.Sound.{sound};
 ghost use Rattle.event.specs.declared.Event.{Event};
-ghost use Rattle.steps.specs.Effects.{started, startedAt, writing};
+ghost use Rattle.steps.specs.Effects.{started, startedAt};
 ghost use Rattle.steps.specs.Meets.{Meets, stateOf};
 ghost use Rattle.steps.specs.Step.{callEvent};
 ghost use Rattle.ordered.specs.Settled.{settled};
+use changes::phases::to_write;
+use lanes::phases;
+use lanes::rules;
+use lanes::rules::Rule;
+use lanes::tallies::tally_of;
 use line::Lane;
 use line::Line;
 use line::MOST_LANES;
 use line::Phase;
 use refusals::refuse;
-use soundness::lanes::tally_of;
-use soundness::phases;
-use soundness::rules;
-use soundness::rules::Rule;
 use steps::Answer;
 use steps::Outcome;
 use view::Place;
-
-// A busy writer of `count` records from a place, or an idle lane where the count is 0.
-fn start(count: u16, at: u32) -> Phase
-    ensures { λ r. ⌜ r ≡ writing count (place at) ⌝ }
-{
-    if count == 0 {
-        return Phase::Idle;
-    }
-    Phase::BusyWriting {
-        left: count,
-        next: Place(at),
-    }
-}
 
 // A gathered lane starts at a place; the others stay as they are.
 fn start_at(phase: Phase, at: u32) -> Phase
@@ -48,7 +35,7 @@ fn start_at(phase: Phase, at: u32) -> Phase
         Phase::Holding(purpose, value) => Phase::Holding(purpose, value),
         Phase::BusyWriting { left, next } => Phase::BusyWriting { left, next },
         Phase::BusyReading { left, next } => Phase::BusyReading { left, next },
-        Phase::Gathered(count) => start(count, at),
+        Phase::Gathered(count) => to_write(count, Place(at)),
     }
 }
 

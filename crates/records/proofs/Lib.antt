@@ -1,4 +1,5 @@
--- The laws behind the calls on records.
+-- The laws of records.
 pub mod Digits
-pub mod Other
-pub mod Calls
+pub mod Answers
+pub mod Steps
+pub mod Regular

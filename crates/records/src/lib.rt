@@ -1,28 +1,24 @@
-// The calls on records: 05 write, 06 read, 07 put and 08 look. The line handed to them is sound: the entries test that.
-ghost use Prim.Native.Nat.{_≤_, _<_, max};
+// The calls on records as changes: 05 write, 06 read, 07 put and 08 look; and the bytes that a record put changes.
+ghost use Prim.Native.Nat.{_-_, _≤_, max};
 ghost use mathlib.Core.Bool.{true};
 ghost use mathlib.Core.Path.{_≡_};
 ghost use lib.ListN.{length};
-ghost use Rattle.line.specs.Line.{phaseAt};
-ghost use Rattle.line.specs.Sound.{sound};
-ghost use Rattle.event.specs.declared.Event.{Event};
-ghost use Rattle.steps.specs.State.{withPhase};
-ghost use Rattle.steps.specs.Meets.{Meets, stateOf};
-ghost use Rattle.steps.specs.Step.{callEvent};
-ghost use Rattle.records.specs.Records.{recordIn};
-use line::Lane;
-use line::Line;
+ghost use Rattle.view.specs.View.{recordEnd};
+ghost use Rattle.line.specs.Line.{mostPointer, placeIn};
+ghost use Rattle.records.specs.Records.{bookAfter, lookChange, putChange, readChange, recordFound, recordIn, recordPut, storable, writable, writeChange};
+use changes::Change;
+use changes::Seen;
+use changes::phases::to_read;
+use changes::phases::to_write;
+use changes::refuse;
+use lanes::phases;
 use line::Phase;
-use refusals::refuse;
 use steps::Answer;
-use steps::Outcome;
 use view::Place;
 use view::View;
+use waitlist::Wakes;
 
 mod bytes;
-mod phases;
-
-use phases::Next;
 
 // The larger of two sizes.
 fn larger(a: u32, b: u32) -> u32
@@ -34,23 +30,32 @@ fn larger(a: u32, b: u32) -> u32
     a
 }
 
-// A lane's phase.
-fn phase_at(line: Line, lane: u8) -> Phase
-    requires { ⌜ lane < 64 ⌝ }
-    ensures { λ r. ⌜ r ≡ phaseAt line lane ⌝ }
+// One record less; of none, none.
+fn one_less(left: u16) -> u16
+    ensures { λ r. ⌜ r ≡ left - 1 ⌝ }
 {
-    let own = line.lane[lane as usize];
-    own.phase
+    if left == 0 {
+        return 0;
+    }
+    left - 1
 }
 
-// The line with another phase for a lane.
-fn with_phase(line: Line, lane: u8, phase: Phase) -> Line
-    requires { ⌜ lane < 64 ⌝ }
-    ensures { λ r. ⌜ r ≡ withPhase line lane phase ⌝ }
+// A record put at a place: the size is the end of the furthest record.
+fn put_at(seen: Seen, view: View, place: Place, phase: Phase) -> Change
+    requires { ⌜ recordEnd view place ≤ seen .capacity ⌝ }
+    ensures { λ r. ⌜ r ≡ recordPut seen view place phase ⌝ }
 {
-    let mut next = line;
-    next.lane[lane as usize] = Lane { phase };
-    next
+    let position = view.position(place);
+    let end = position.0 as u32 + 8;
+    let pointer = seen.pointer;
+    Change {
+        answer: Answer::Wrote { position },
+        phase,
+        flag: seen.flag,
+        pointer,
+        size: larger(seen.size, end),
+        wakes: Wakes::None,
+    }
 }
 
 // The record at a place, or none where it ends past the size.
@@ -67,96 +72,114 @@ fn record_at(view: View, size: u32, book: &[u8], place: Place) -> Answer
     Answer::Record { content }
 }
 
-// 05: a busy writer puts its next record.
-pub fn write(line: Line, book: &mut [u8], lane: u8, content: u64) -> Outcome
-    requires { ⌜ sound line (length (now book)) ≡ true ⌝ }
-    ensures { λ r. ⌜ Meets (callEvent (stateOf line (now (book .entry))) (Event.Write lane content)) r (now (book .exit)) ⌝ }
+// A record looked for at a place, and the lane's phase after it.
+fn find_at(seen: Seen, view: View, book: &[u8], place: Place, phase: Phase) -> Change
+    requires { ⌜ seen .size ≤ length (now book) ⌝ }
+    ensures { λ r. ⌜ r ≡ recordFound seen view (now (book .entry)) place phase ⌝ }
 {
-    if line.lanes == 0 {
-        return refuse(line, 4);
-    }
-    if line.lanes <= lane {
-        return refuse(line, 8);
-    }
-    let Next::Record { place, after } = phases::next_write(phase_at(line, lane)) else {
-        return refuse(line, 13);
-    };
-    let view = line.view;
-    let position = view.position(place);
-    let at = position.0 as usize;
-    bytes::store_record(book, at, content);
-    let mut next = with_phase(line, lane, after);
-    next.size = larger(line.size, at as u32 + 8);
-    Outcome {
-        line: next,
-        answer: Answer::Wrote { position },
+    let answer = record_at(view, seen.size, book, place);
+    let pointer = seen.pointer;
+    Change {
+        answer,
+        phase,
+        flag: seen.flag,
+        pointer,
+        size: seen.size,
+        wakes: Wakes::None,
     }
 }
 
-// 06: a busy reader gets its next record, or none; either uses one up.
-pub fn read(line: Line, book: &[u8], lane: u8) -> Outcome
-    requires { ⌜ sound line (length (now book)) ≡ true ⌝ }
-    ensures { λ r. ⌜ Meets (callEvent (stateOf line (now (book .entry))) (Event.Read lane)) r (now (book .entry)) ⌝ }
+// 05: a busy writer puts its next record; after its last it is idle.
+pub fn write(seen: Seen, view: View, lane: u8) -> Change
+    requires { ⌜ (placeIn (seen .phase) .0 ≤ mostPointer) × (writable seen view ≡ true) ⌝ }
+    ensures { λ r. ⌜ r ≡ writeChange seen view lane ⌝ }
 {
-    if line.lanes == 0 {
-        return refuse(line, 4);
+    if seen.lanes == 0 {
+        return refuse(seen, 4);
     }
-    if line.lanes <= lane {
-        return refuse(line, 8);
+    if seen.lanes <= lane {
+        return refuse(seen, 8);
     }
-    let Next::Record { place, after } = phases::next_read(phase_at(line, lane)) else {
-        return refuse(line, 13);
-    };
-    let view = line.view;
-    let answer = record_at(view, line.size, book, place);
-    let next = with_phase(line, lane, after);
-    Outcome { line: next, answer }
+    let phase = seen.phase;
+    match phase {
+        Phase::BusyWriting { left, next } => put_at(
+            seen,
+            view,
+            next,
+            to_write(one_less(left), Place(next.0 + 1)),
+        ),
+        _ => refuse(seen, 13),
+    }
+}
+
+// 06: a busy reader gets its next record, or none; either uses one up, and after its last it is idle.
+pub fn read(seen: Seen, view: View, book: &[u8], lane: u8) -> Change
+    requires { ⌜ (placeIn (seen .phase) .0 ≤ mostPointer) × (seen .size ≤ length (now book)) ⌝ }
+    ensures { λ r. ⌜ r ≡ readChange seen view (now (book .entry)) lane ⌝ }
+{
+    if seen.lanes == 0 {
+        return refuse(seen, 4);
+    }
+    if seen.lanes <= lane {
+        return refuse(seen, 8);
+    }
+    let phase = seen.phase;
+    match phase {
+        Phase::BusyReading { left, next } => find_at(
+            seen,
+            view,
+            book,
+            next,
+            to_read(one_less(left), Place(next.0 + 1)),
+        ),
+        _ => refuse(seen, 13),
+    }
 }
 
 // 07: the holder of the whole book puts a record at any place.
-pub fn put(line: Line, book: &mut [u8], lane: u8, place: Place, content: u64) -> Outcome
-    requires { ⌜ sound line (length (now book)) ≡ true ⌝ }
-    ensures { λ r. ⌜ Meets (callEvent (stateOf line (now (book .entry))) (Event.Put lane place content)) r (now (book .exit)) ⌝ }
+pub fn put(seen: Seen, view: View, lane: u8, place: Place) -> Change
+    ensures { λ r. ⌜ r ≡ putChange seen view lane place ⌝ }
 {
-    if line.lanes == 0 {
-        return refuse(line, 4);
+    if seen.lanes == 0 {
+        return refuse(seen, 4);
     }
-    if line.lanes <= lane {
-        return refuse(line, 8);
+    if seen.lanes <= lane {
+        return refuse(seen, 8);
     }
-    if !phases::holds_whole(phase_at(line, lane)) {
-        return refuse(line, 13);
+    let phase = seen.phase;
+    if !phases::holds_whole(phase) {
+        return refuse(seen, 13);
     }
-    let view = line.view;
-    if !view.fits(line.capacity, place, 1) {
-        return refuse(line, 16);
+    if !view.fits(seen.capacity, place, 1) {
+        return refuse(seen, 16);
     }
-    let position = view.position(place);
-    let at = position.0 as usize;
-    bytes::store_record(book, at, content);
-    let mut grown = line;
-    grown.size = larger(line.size, at as u32 + 8);
-    Outcome {
-        line: grown,
-        answer: Answer::Wrote { position },
-    }
+    put_at(seen, view, place, phase)
 }
 
 // 08: the holder of the whole book looks at any place.
-pub fn look(line: Line, book: &[u8], lane: u8, place: Place) -> Outcome
-    requires { ⌜ sound line (length (now book)) ≡ true ⌝ }
-    ensures { λ r. ⌜ Meets (callEvent (stateOf line (now (book .entry))) (Event.Look lane place)) r (now (book .entry)) ⌝ }
+pub fn look(seen: Seen, view: View, book: &[u8], lane: u8, place: Place) -> Change
+    requires { ⌜ seen .size ≤ length (now book) ⌝ }
+    ensures { λ r. ⌜ r ≡ lookChange seen view (now (book .entry)) lane place ⌝ }
 {
-    if line.lanes == 0 {
-        return refuse(line, 4);
+    if seen.lanes == 0 {
+        return refuse(seen, 4);
     }
-    if line.lanes <= lane {
-        return refuse(line, 8);
+    if seen.lanes <= lane {
+        return refuse(seen, 8);
     }
-    if !phases::holds_whole(phase_at(line, lane)) {
-        return refuse(line, 13);
+    let phase = seen.phase;
+    if !phases::holds_whole(phase) {
+        return refuse(seen, 13);
     }
-    let view = line.view;
-    let answer = record_at(view, line.size, book, place);
-    Outcome { line, answer }
+    find_at(seen, view, book, place, phase)
+}
+
+// Stores the record that was put, at the position of the answer; a refusal changes no byte.
+pub fn store(book: &mut [u8], answer: Answer, content: u64)
+    requires { ⌜ storable answer (length (now book)) ≡ true ⌝ }
+    ensures { λ _. ⌜ now (book .exit) ≡ bookAfter content (now (book .entry)) answer ⌝ }
+{
+    if let Answer::Wrote { position } = answer {
+        bytes::store_record(book, position.0 as usize, content);
+    }
 }

@@ -8,6 +8,8 @@ ghost use Rattle.steps.specs.Effects.{viewOf};
 ghost use Rattle.steps.specs.Meets.{Meets, stateOf};
 ghost use Rattle.steps.specs.Step.{callEvent};
 use event::Blocks;
+use lanes::rules;
+use lanes::rules::Rule;
 use line::Line;
 use refusals::refuse;
 use steps::Answer;
@@ -16,7 +18,6 @@ use view::Place;
 use view::View;
 
 mod fresh;
-mod idle;
 mod target;
 
 use target::Sought;
@@ -83,8 +84,7 @@ pub fn set_view(
     if !view.is_ok(line.capacity) {
         return refuse(line, 10);
     }
-    let lane = line.lane;
-    if !idle::all_idle(lane) {
+    if !rules::all_meet(Rule::Idle, line, 0) {
         return refuse(line, 11);
     }
     let start = Place(0);
@@ -108,8 +108,7 @@ pub fn seek(line: Line, book: &[u8], whence: u8, offset: i32) -> Outcome
     if 2 < whence {
         return refuse(line, 9);
     }
-    let lane = line.lane;
-    if !idle::all_idle(lane) {
+    if !rules::all_meet(Rule::Idle, line, 0) {
         return refuse(line, 11);
     }
     let view = line.view;

@@ -1,52 +1,23 @@
--- How the test of the flags moves on by one lane, what flags that are those of the phases give, and the test of the plain view.
-use Prim.Native.Nat.{ℕ, _+_, _≤_, _<_}
+-- What flags that are those of the phases give, and the test of the plain view.
+use Prim.Native.Nat.{_<_}
 use mathlib.Core.Path.{_≡_, refl, sym, _∙_}
 use mathlib.Core.Bool.{Bool, true, false, _&&_}
 use mathlib.Core.List.{List, [], _∷_, map}
-use native.Mathlib.Omega.{arith}
 use native.Mathlib.Nat.{not-suc-le-zero}
-use lib.ListN.{drop, getD, length, length-map, take, List·getD-map}
+use lib.ListN.{drop, getD, length, take}
 use lib.Dec.{eqb, ltb}
-use Rattle.lists.specs.Lists.{all, any, count, sameNumbers}
-use Rattle.lists.proofs.Loops.{same-end, same-more, same-stop}
+use Rattle.lists.specs.Lists.{all, any, count}
 use Rattle.lists.proofs.Counts.{all-mono, same-is}
 use Rattle.lists.proofs.Maps.{all-map, any-count, any-map, drop-map}
 use Rattle.view.specs.View.{block, inOrder, isPlain, isPlainBlocks, isUnused, viewOk}
 use Rattle.view.specs.declared.Block.{Block}
 use Rattle.view.specs.declared.View.{View}
-use Rattle.line.specs.Line.{flagFor, idleLane, isIdle, mostLanes, on}
+use Rattle.line.specs.Line.{flagFor, isIdle, on}
 use Rattle.line.specs.Sound.{flagsOk, pastOk}
 use Rattle.line.specs.declared.Lane.{Lane}
 use Rattle.line.specs.declared.Line.{Line}
 use Rattle.line.specs.declared.Phase.{Phase}
-use Rattle.soundness.specs.Rules.{isFlagged}
-
-pub and-true : (b : Bool) → (b && true) ≡ b
-and-true true = refl
-and-true false = refl
-
--- what owning an array of structs tells of the length of its list
-pub unmapped : (A B : Type 0) (f : A → B) (l : List A) (n : ℕ) → length (map f l) ≡ n → length l ≡ n
-unmapped A B f l n e = sym (length-map l f) ∙ e
-
-module _ (flags : List ℕ) (ls : List Lane) (i : ℕ) (flags-length : length flags ≡ mostLanes) (lanes-length : length ls ≡ mostLanes) where
-  abbrev phase-flags : List ℕ
-  phase-flags = map (on flagFor) ls
-
-  as-long : length phase-flags ≡ mostLanes
-  as-long = length-map ls (on flagFor) ∙ lanes-length
-
-  flag-of : getD phase-flags i 0 ≡ flagFor (getD ls i idleLane .phase)
-  flag-of = List·getD-map (on flagFor) ls i idleLane
-
-  pub flags-end : mostLanes ≤ i → sameNumbers (drop i flags) (drop i phase-flags) ≡ true
-  flags-end h = same-end flags phase-flags i 0 0 (omega arith) (omega (arith, as-long))
-
-  pub flags-stop : i < mostLanes → (getD flags i 0 ≡ flagFor (getD ls i idleLane .phase) → ⊥) → sameNumbers (drop i flags) (drop i phase-flags) ≡ false
-  flags-stop h ne = same-stop flags phase-flags i 0 0 (omega arith) (omega (arith, as-long)) (λ e. ne (e ∙ flag-of))
-
-  pub flags-more : i < mostLanes → getD flags i 0 ≡ flagFor (getD ls i idleLane .phase) → sameNumbers (drop i flags) (drop i phase-flags) ≡ sameNumbers (drop (i + 1) flags) (drop (i + 1) phase-flags)
-  flags-more h e = same-more flags phase-flags i 0 0 (omega arith) (omega (arith, as-long)) (e ∙ sym flag-of)
+use Rattle.lanes.specs.Rules.{isFlagged}
 
 -- ---- flags that are those of the phases
 idle-flag : (x : Phase) → isIdle x ≡ true → eqb 0 (flagFor x) ≡ true

@@ -2,14 +2,12 @@
 ghost use mathlib.Core.Path.{_≡_};
 ghost use mathlib.Core.Bool.{true};
 ghost use Rattle.line.specs.Sound.{busyOk, flagsOk, gatheredOk, pastOk, sound, turnOk};
+use lanes::rules;
+use lanes::rules::Rule;
+use lanes::tallies;
 use line::Line;
 
-pub mod lanes;
 mod numbers;
-pub mod phases;
-pub mod rules;
-
-use rules::Rule;
 
 // "If a flag is 1, exactly one lane is woken or holding, and its value is the pointer"; the flags are those of the phases.
 fn turn_ok(line: Line) -> bool
@@ -17,7 +15,7 @@ fn turn_ok(line: Line) -> bool
     ensures { λ r. ⌜ r ≡ turnOk line ⌝ }
 {
     let lane = line.lane;
-    let t = lanes::tally_of(lane);
+    let t = tallies::tally_of(lane);
     if t.flagged == 0 {
         return true;
     }
@@ -34,7 +32,7 @@ fn gathered_ok(line: Line) -> bool
     let lane = line.lane;
     let pointer = line.pointer;
     let view = line.view;
-    let t = lanes::tally_of(lane);
+    let t = tallies::tally_of(lane);
     if t.gathered == 0 {
         return true;
     }
@@ -55,7 +53,7 @@ fn busy_ok(line: Line) -> bool
         return false;
     }
     let lane = line.lane;
-    lanes::regions_apart(lane)
+    tallies::regions_apart(lane)
 }
 
 // "Entries past N are idle with flag 0"; the flags are those of the phases.
@@ -75,7 +73,7 @@ pub fn is_sound(line: Line, buffer: usize) -> bool
     }
     let flag = line.flag;
     let lane = line.lane;
-    if !lanes::flags_ok(flag, lane) {
+    if !tallies::flags_ok(flag, lane) {
         return false;
     }
     if !turn_ok(line) {

@@ -1,6 +1,3 @@
--- The laws that the functions' proofs cite.
-pub mod Arms
-pub mod Scans
-pub mod Exits
-pub mod Decided
-pub mod Reach
+-- The laws of the calls of the waitlist.
+pub mod Steps
+pub mod Regular

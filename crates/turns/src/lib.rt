@@ -1,268 +1,215 @@
-// The calls want, receive, take and free on a sound line: the tests in the order of the refusals, then the stores.
-ghost use Prim.Native.Nat.{ℕ, _≤_, _<_};
+// The calls 02 want, 03 receive, 04 take and 09 free as changes: the tests in the order of the refusals, then what the call does.
+ghost use Prim.Native.Nat.{_≤_, _<_};
 ghost use mathlib.Core.Path.{_≡_};
-ghost use mathlib.Core.Bool.{true};
-ghost use mathlib.Core.List.{List};
-ghost use lib.Dec.{eqb};
-ghost use lib.ListN.{length};
-ghost use Rattle.lists.specs.Lists.{all, any};
-ghost use Rattle.line.specs.Line.{isGathered, mostLanes, mostPointer, on};
-ghost use Rattle.line.specs.Sound.{sound};
-ghost use Rattle.waitlist.specs.NextLane.{nextLane};
-ghost use Rattle.event.specs.declared.Event.{Event};
-ghost use Rattle.steps.specs.State.{withPhase};
-ghost use Rattle.steps.specs.Effects.{lowered, nextOf, released, wantStep};
-ghost use Rattle.steps.specs.Step.{callEvent};
-ghost use Rattle.steps.specs.Meets.{Meets, stateOf};
-ghost use Rattle.turns.specs.Outcomes.{leaving, outcome};
-use line::Lane;
-use line::Line;
-use line::MOST_LANES;
+ghost use Rattle.line.specs.Line.{mostPointer, placeIn};
+ghost use Rattle.turns.specs.Turns.{freeChange, movedTo, receiveChange, releasedTo, takeChange, taken, takenBy, takenToRead, takenToWrite, wantChange, wanted};
+use changes::Change;
+use changes::Seen;
+use changes::phases::purpose_of;
+use changes::phases::to_read;
+use changes::phases::to_write;
+use changes::refuse;
+use lanes::phases;
 use line::Phase;
 use line::Purpose;
 use steps::Answer;
-use steps::Outcome;
 use view::Place;
+use view::View;
 use waitlist::Wakes;
 
-pub mod phases;
+// The most that the pointer can be.
+const MOST_POINTER: u64 = 65536;
 
-use phases::Received;
-use phases::Taken;
-
-// What a release leaves: the line, and the lane that it wakes.
-pub struct Released {
-    pub line: Line,
-    pub wakes: Wakes,
-}
-
-// A refused call gives its number, and the line as it was.
-fn refuse(line: Line, number: u8) -> Outcome
-    ensures { λ r. ⌜ r ≡ outcome (Answer.Refused number) line ⌝ }
+// A lane raises its flag: where all others are 0 it holds, with the pointer, and else it waits.
+fn raise(seen: Seen, alone: bool, purpose: Purpose) -> Change
+    ensures { λ r. ⌜ r ≡ wanted seen alone purpose ⌝ }
 {
-    Outcome {
-        line,
-        answer: Answer::Refused { number },
-    }
-}
-
-// Whether a lane has entered an ordered call.
-fn any_gathered(lane: [Lane; MOST_LANES]) -> bool
-    ensures { λ r. ⌜ r ≡ any (on isGathered) lane ⌝ }
-{
-    let mut i: usize = 0;
-    while i < MOST_LANES {
-        let l = lane[i];
-        let phase = l.phase;
-        if phases::is_gathered(phase) {
-            return true;
-        }
-        i += 1;
-    }
-    false
-}
-
-// Whether all flags are 0.
-fn all_down(flag: [u8; MOST_LANES]) -> bool
-    ensures { λ r. ⌜ r ≡ all (eqb 0) flag ⌝ }
-{
-    let mut i: usize = 0;
-    while i < MOST_LANES {
-        if flag[i] != 0 {
-            return false;
-        }
-        i += 1;
-    }
-    true
-}
-
-// A lane raises its flag and reads the others: where all are 0 it holds, with the pointer, and else it waits.
-fn raise(line: Line, lane: u8, purpose: Purpose) -> Outcome
-    requires { ⌜ lane < mostLanes ⌝ }
-    ensures { λ r. ⌜ ((b : List ℕ) → Meets (wantStep (stateOf line b) lane purpose) r b) ⌝ }
-{
-    let i = lane as usize;
-    let pointer = line.pointer;
-    let mut others = line.flag;
-    others[i] = 0;
-    let mut next = line;
-    next.flag[i] = 1;
-    if all_down(others) {
-        next.lane[i] = Lane {
-            phase: Phase::Holding(purpose, pointer),
-        };
-        return Outcome {
-            line: next,
+    let pointer = seen.pointer;
+    if alone {
+        return Change {
             answer: Answer::Holds { pointer },
+            phase: Phase::Holding(purpose, pointer),
+            flag: 1,
+            pointer,
+            size: seen.size,
+            wakes: Wakes::None,
         };
     }
-    next.lane[i] = Lane {
-        phase: Phase::Waiting(purpose),
-    };
-    Outcome {
-        line: next,
+    Change {
         answer: Answer::Waits,
+        phase: Phase::Waiting(purpose),
+        flag: 1,
+        pointer,
+        size: seen.size,
+        wakes: Wakes::None,
     }
 }
 
 // 02: an idle lane asks for the book.
-pub fn want(line: Line, book: &[u8], lane: u8, purpose: u8) -> Outcome
-    requires { ⌜ sound line (length (now book)) ≡ true ⌝ }
-    ensures { λ r. ⌜ Meets (callEvent (stateOf line (now (book .entry))) (Event.Want lane purpose)) r (now (book .entry)) ⌝ }
+pub fn want(seen: Seen, flags: &[u8], lane: u8, purpose: u8) -> Change
+    ensures { λ r. ⌜ r ≡ wantChange seen (now (flags .entry)) lane purpose ⌝ }
 {
-    let lanes = line.lanes;
-    if lanes == 0 {
-        return refuse(line, 4);
+    if seen.lanes == 0 {
+        return refuse(seen, 4);
     }
-    if lanes <= lane {
-        return refuse(line, 8);
+    if seen.lanes <= lane {
+        return refuse(seen, 8);
     }
     if 2 < purpose {
-        return refuse(line, 9);
+        return refuse(seen, 9);
     }
-    let all = line.lane;
-    if any_gathered(all) {
-        return refuse(line, 12);
+    if seen.gathering {
+        return refuse(seen, 12);
     }
-    let own = all[lane as usize];
-    let phase = own.phase;
+    let phase = seen.phase;
     if !phases::is_idle(phase) {
-        return refuse(line, 13);
+        return refuse(seen, 13);
     }
-    raise(line, lane, phases::purpose_of(purpose))
+    raise(
+        seen,
+        waitlist::others_down(flags, lane),
+        purpose_of(purpose),
+    )
 }
 
 // A woken lane holds, with the wake's value.
-fn hold(line: Line, lane: u8, purpose: Purpose, value: Place) -> Outcome
-    requires { ⌜ lane < mostLanes ⌝ }
-    ensures { λ r. ⌜ r ≡ outcome (Answer.Holds value) (withPhase line lane (Phase.Holding purpose value)) ⌝ }
+fn hold(seen: Seen, purpose: Purpose, value: Place) -> Change
+    ensures { λ r. ⌜ r ≡ movedTo seen (Answer.Holds value) (Phase.Holding purpose value) (seen .flag) ⌝ }
 {
-    let i = lane as usize;
-    let mut next = line;
-    next.lane[i] = Lane {
-        phase: Phase::Holding(purpose, value),
-    };
-    Outcome {
-        line: next,
+    let pointer = seen.pointer;
+    Change {
         answer: Answer::Holds { pointer: value },
+        phase: Phase::Holding(purpose, value),
+        flag: seen.flag,
+        pointer,
+        size: seen.size,
+        wakes: Wakes::None,
     }
 }
 
-// 03: a woken lane becomes holding.
-pub fn receive(line: Line, book: &[u8], lane: u8) -> Outcome
-    requires { ⌜ sound line (length (now book)) ≡ true ⌝ }
-    ensures { λ r. ⌜ Meets (callEvent (stateOf line (now (book .entry))) (Event.Receive lane)) r (now (book .entry)) ⌝ }
+// 03: a woken lane becomes holding; to a waiting one no wake has come yet.
+pub fn receive(seen: Seen, lane: u8) -> Change
+    ensures { λ r. ⌜ r ≡ receiveChange seen lane ⌝ }
 {
-    let lanes = line.lanes;
-    if lanes == 0 {
-        return refuse(line, 4);
+    if seen.lanes == 0 {
+        return refuse(seen, 4);
     }
-    if lanes <= lane {
-        return refuse(line, 8);
+    if seen.lanes <= lane {
+        return refuse(seen, 8);
     }
-    let all = line.lane;
-    let own = all[lane as usize];
-    let phase = own.phase;
-    let found = phases::receive_from(phase);
-    match found {
-        Received::Holding(purpose, value) => hold(line, lane, purpose, value),
-        Received::Refused(number) => refuse(line, number),
+    let phase = seen.phase;
+    match phase {
+        Phase::Woken(purpose, value) => hold(seen, purpose, value),
+        Phase::Waiting(_) => refuse(seen, 14),
+        _ => refuse(seen, 13),
     }
 }
 
-// A lane leaves: its flag drops, it gets its next phase and the line its pointer; then the next lane is woken with that pointer.
-fn release(line: Line, lane: u8, phase: Phase, pointer: Place) -> Released
-    requires { ⌜ (line .lanes ≤ mostLanes) × (lane < line .lanes) ⌝ }
-    ensures { λ r. ⌜ (r .wakes ≡ nextOf nextLane (lowered line lane phase pointer) lane) × (r .line ≡ released nextLane (lowered line lane phase pointer) lane) ⌝ }
+// A release, of 04 and 09: the flag drops, and the next lane is woken with the pointer.
+fn release(seen: Seen, answer: Answer, phase: Phase, pointer: Place, wakes: Wakes) -> Change
+    ensures { λ r. ⌜ r ≡ releasedTo seen answer phase pointer wakes ⌝ }
 {
-    let i = lane as usize;
-    let lanes = line.lanes;
-    let mut next = line;
-    next.flag[i] = 0;
-    next.lane[i] = Lane { phase };
-    next.pointer = pointer;
-    let flag = next.flag;
-    let wakes = waitlist::next_lane(lanes, &flag, lane);
-    match wakes {
-        Wakes::None => Released { line: next, wakes },
-        Wakes::Lane(number) => {
-            let w = number as usize;
-            let woken = next.lane[w];
-            let waiting = woken.phase;
-            next.lane[w] = Lane {
-                phase: phases::wake_with(pointer, waiting),
-            };
-            Released { line: next, wakes }
-        }
+    Change {
+        answer,
+        phase,
+        flag: 0,
+        pointer,
+        size: seen.size,
+        wakes,
     }
 }
 
-// A lane takes its region: the pointer moves past it, and the lane leaves for its next phase.
-fn take_region(line: Line, lane: u8, start: Place, count: u16, phase: Phase) -> Outcome
-    requires { ⌜ (line .lanes ≤ mostLanes) × (lane < line .lanes) × (start .0 ≤ mostPointer) ⌝ }
-    ensures { λ r. ⌜ r ≡ outcome (Answer.Region start count (nextOf nextLane (leaving line lane count start phase) lane)) (released nextLane (leaving line lane count start phase) lane) ⌝ }
+// A region of `count` records from a place: the pointer moves past it, and the lane releases.
+fn take_region(seen: Seen, flags: &[u8], lane: u8, start: Place, count: u16, phase: Phase) -> Change
+    requires { ⌜ (lane < seen .lanes) × (start .0 ≤ mostPointer) ⌝ }
+    ensures { λ r. ⌜ r ≡ taken seen (now (flags .entry)) lane start count phase ⌝ }
 {
     let pointer = Place(start.0 + count as u32);
-    let left = release(line, lane, phase, pointer);
-    let wakes = left.wakes;
-    let next = left.line;
-    Outcome {
-        line: next,
-        answer: Answer::Region {
-            start,
-            count,
-            wakes,
-        },
+    let wakes = waitlist::next_after(seen.lanes, flags, lane);
+    let answer = Answer::Region {
+        start,
+        count,
+        wakes,
+    };
+    release(seen, answer, phase, pointer, wakes)
+}
+
+// The take of a shared write, whose records must fit.
+fn take_to_write(seen: Seen, view: View, flags: &[u8], lane: u8, start: Place, count: u16) -> Change
+    requires { ⌜ (lane < seen .lanes) × (start .0 ≤ mostPointer) ⌝ }
+    ensures { λ r. ⌜ r ≡ takenToWrite seen view (now (flags .entry)) lane start count ⌝ }
+{
+    if !view.fits(seen.capacity, start, count as u32) {
+        return refuse(seen, 16);
+    }
+    take_region(seen, flags, lane, start, count, to_write(count, start))
+}
+
+// The take of a shared read, which may run past the capacity; the pointer must stay in its range.
+fn take_to_read(seen: Seen, flags: &[u8], lane: u8, start: Place, count: u16) -> Change
+    requires { ⌜ (lane < seen .lanes) × (start .0 ≤ mostPointer) ⌝ }
+    ensures { λ r. ⌜ r ≡ takenToRead seen (now (flags .entry)) lane start count ⌝ }
+{
+    if MOST_POINTER < start.0 as u64 + count as u64 {
+        return refuse(seen, 15);
+    }
+    take_region(seen, flags, lane, start, count, to_read(count, start))
+}
+
+// The take of a lane that holds: of a region for a shared purpose, and refused for the whole book.
+fn take_by(
+    seen: Seen,
+    view: View,
+    flags: &[u8],
+    lane: u8,
+    purpose: Purpose,
+    start: Place,
+    count: u16,
+) -> Change
+    requires { ⌜ (lane < seen .lanes) × (start .0 ≤ mostPointer) ⌝ }
+    ensures { λ r. ⌜ r ≡ takenBy seen view (now (flags .entry)) lane purpose start count ⌝ }
+{
+    match purpose {
+        Purpose::SharedWrite => take_to_write(seen, view, flags, lane, start, count),
+        Purpose::SharedRead => take_to_read(seen, flags, lane, start, count),
+        Purpose::WholeBook => refuse(seen, 13),
     }
 }
 
 // 04: a holder for a shared purpose takes a region and releases.
-pub fn take(line: Line, book: &[u8], lane: u8, count: u16) -> Outcome
-    requires { ⌜ sound line (length (now book)) ≡ true ⌝ }
-    ensures { λ r. ⌜ Meets (callEvent (stateOf line (now (book .entry))) (Event.Take lane count)) r (now (book .entry)) ⌝ }
+pub fn take(seen: Seen, view: View, flags: &[u8], lane: u8, count: u16) -> Change
+    requires { ⌜ placeIn (seen .phase) .0 ≤ mostPointer ⌝ }
+    ensures { λ r. ⌜ r ≡ takeChange seen view (now (flags .entry)) lane count ⌝ }
 {
-    let lanes = line.lanes;
-    if lanes == 0 {
-        return refuse(line, 4);
+    if seen.lanes == 0 {
+        return refuse(seen, 4);
     }
-    if lanes <= lane {
-        return refuse(line, 8);
+    if seen.lanes <= lane {
+        return refuse(seen, 8);
     }
-    let all = line.lane;
-    let own = all[lane as usize];
-    let phase = own.phase;
-    let view = line.view;
-    let found = phases::take_from(phase, view, line.capacity, count);
-    match found {
-        Taken::Region { start, phase: next } => take_region(line, lane, start, count, next),
-        Taken::Refused(number) => refuse(line, number),
+    let phase = seen.phase;
+    match phase {
+        Phase::Holding(purpose, value) => take_by(seen, view, flags, lane, purpose, value, count),
+        _ => refuse(seen, 13),
     }
 }
 
 // 09: a holder of the whole book releases; the pointer is unchanged and carried by the wake.
-pub fn free(line: Line, book: &[u8], lane: u8) -> Outcome
-    requires { ⌜ sound line (length (now book)) ≡ true ⌝ }
-    ensures { λ r. ⌜ Meets (callEvent (stateOf line (now (book .entry))) (Event.Free lane)) r (now (book .entry)) ⌝ }
+pub fn free(seen: Seen, flags: &[u8], lane: u8) -> Change
+    ensures { λ r. ⌜ r ≡ freeChange seen (now (flags .entry)) lane ⌝ }
 {
-    let lanes = line.lanes;
-    if lanes == 0 {
-        return refuse(line, 4);
+    if seen.lanes == 0 {
+        return refuse(seen, 4);
     }
-    if lanes <= lane {
-        return refuse(line, 8);
+    if seen.lanes <= lane {
+        return refuse(seen, 8);
     }
-    let all = line.lane;
-    let own = all[lane as usize];
-    let phase = own.phase;
+    let phase = seen.phase;
     if !phases::holds_whole(phase) {
-        return refuse(line, 13);
+        return refuse(seen, 13);
     }
-    let pointer = line.pointer;
-    let left = release(line, lane, Phase::Idle, pointer);
-    let wakes = left.wakes;
-    let next = left.line;
-    Outcome {
-        line: next,
-        answer: Answer::Freed { wakes },
-    }
+    let pointer = seen.pointer;
+    let wakes = waitlist::next_after(seen.lanes, flags, lane);
+    let answer = Answer::Freed { wakes };
+    release(seen, answer, Phase::Idle, pointer, wakes)
 }

@@ -1,7 +1,9 @@
-// The waitlist: which lane a release wakes.
-ghost use Prim.Native.Nat.{_+_, _-_, _≤_};
+// The waitlist: whether another lane has its flag up, and which lane a release wakes.
+ghost use Prim.Native.Nat.{_+_, _-_, _≤_, _<_};
 ghost use mathlib.Core.Path.{_≡_};
-ghost use lib.ListN.{getD};
+ghost use lib.Dec.{eqb};
+ghost use lib.ListN.{getD, set};
+ghost use Rattle.lists.specs.Lists.{all};
 ghost use Rattle.waitlist.specs.NextLane.{firstRaised, nextLane};
 
 // The lane that a release wakes, if a lane waits.
@@ -25,6 +27,31 @@ fn flag_at(flags: &[u8], i: usize) -> u8
         return flags[i];
     }
     0
+}
+
+// The flag of lane i where lane `own` has its flag down.
+fn flag_but(flags: &[u8], i: usize, own: usize) -> u8
+    ensures { λ r. ⌜ r ≡ getD (set (now (flags .entry)) own 0) i 0 ⌝ }
+{
+    if i == own {
+        return 0;
+    }
+    flag_at(flags, i)
+}
+
+// Whether all flags but the lane's own are 0.
+pub fn others_down(flags: &[u8], lane: u8) -> bool
+    ensures { λ r. ⌜ r ≡ all (eqb 0) (set (now (flags .entry)) lane 0) ⌝ }
+{
+    let own = index(lane);
+    let mut i: usize = 0;
+    while i < flags.len() {
+        if flag_but(flags, i, own) != 0 {
+            return false;
+        }
+        i += 1;
+    }
+    true
 }
 
 // The first flagged lane from start up to, and not including, end.
@@ -51,5 +78,18 @@ pub fn next_lane(lanes: u8, flags: &[u8], releaser: u8) -> Wakes
     match above {
         Wakes::Lane(i) => Wakes::Lane(i),
         Wakes::None => first_raised(flags, 0, end),
+    }
+}
+
+// The next lane once the releaser's flag is down, whether it is down yet or not: the search steps over the releaser.
+pub fn next_after(lanes: u8, flags: &[u8], releaser: u8) -> Wakes
+    requires { ⌜ releaser < lanes ⌝ }
+    ensures { λ r. ⌜ r ≡ nextLane lanes (set (now (flags .entry)) releaser 0) releaser ⌝ }
+{
+    let own = index(releaser);
+    let above = first_raised(flags, own + 1, index(lanes));
+    match above {
+        Wakes::Lane(i) => Wakes::Lane(i),
+        Wakes::None => first_raised(flags, 0, own),
     }
 }

@@ -6,7 +6,7 @@ use borrow.Author.Needs.{needs}
 use borrow.Author.Tests.{not-false, not-true}
 use Rattle.view.specs.View.{fits}
 use Rattle.line.specs.Line.{Shaped}
-use Rattle.soundness.specs.declared.lanes.Tally.{Tally}
+use Rattle.lanes.specs.declared.tallies.Tally.{Tally}
 use Rattle.line.specs.Sound.{gatheredTotal}
 use Rattle.steps.specs.Effects.{entered}
 use Rattle.refusals.proofs.Shape.{shape-of}

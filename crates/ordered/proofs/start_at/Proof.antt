@@ -24,8 +24,8 @@ enum-known-phase-5 c = search needs
 enum-known-phase-6 : tie.Need-enum-known-phase-6
 enum-known-phase-6 c = search needs
 
-start-requires : tie.Need-start-requires
-start-requires c κs = search needs
+to-write-requires : tie.Need-to-write-requires
+to-write-requires c κs = search needs
 
 returns : tie.Need-returns
 returns c = search needs
@@ -46,7 +46,7 @@ returns-6 : tie.Need-returns-6
 returns-6 c = rw (c .before .phase5 .given .1)
 
 returns-7 : tie.Need-returns-7
-returns-7 c = rw (c .before .before .phase6 .given .1) (c .start .ensures)
+returns-7 c = rw (c .before .before .phase6 .given .1) (c .to-write .ensures)
 
 pub start-at-spec : {M : Type 1} → statement M
 start-at-spec =
@@ -59,7 +59,7 @@ start-at-spec =
     enum-known-phase-4
     enum-known-phase-5
     enum-known-phase-6
-    start-requires
+    to-write-requires
     returns
     returns-2
     returns-3

@@ -32,19 +32,19 @@ returns-2 c =
     let s = e1 .before .before .before in
     seek-9 (s .args .line) (s .args .book .now) (s .pre) (e1 .if1 .left) (s .args .whence) (s .args .offset) (c .refuse2 .result) (c .before .if2 .taken) (c .refuse2 .ensures)
 
-all-idle-requires : tie.Need-all-idle-requires
-all-idle-requires c κs = search needs
+all-meet-requires : tie.Need-all-meet-requires
+all-meet-requires c κs = search needs
 
 refuse-requires-3 : tie.Need-refuse-requires-3
 refuse-requires-3 c κs = search needs
 
 returns-3 : tie.Need-returns-3
 returns-3 c =
-    let e2 = c .before .before .before .before in
+    let e2 = c .before .before .before in
     let e1 = e2 .before in
     let s = e1 .before .before .before in
     seek-11 (s .args .line) (s .args .book .now) (s .pre) (e1 .if1 .left) (s .args .whence) (s .args .offset) (e2 .if2 .left) (c .refuse3 .result)
-    (sym (c .before .before .all-idle .ensures) ∙ not-true _ (c .before .if3 .taken)) (c .refuse3 .ensures)
+    (sym (c .before .before .all-meet .ensures) ∙ not-true _ (c .before .if3 .taken)) (c .refuse3 .ensures)
 
 end-of-book-requires : tie.Need-end-of-book-requires
 end-of-book-requires c κs = search needs
@@ -69,10 +69,10 @@ returns-4 c =
     let moved = c .before .before .before in
     let found = moved .before .before in
     let e3 = found .before .before .before in
-    let e2 = e3 .before .before .before in
+    let e2 = e3 .before .before in
     let e1 = e2 .before in
     let s = e1 .before .before .before in
-    seek-15 (s .args .line) (s .args .book .now) (s .pre) (e1 .if1 .left) (s .args .whence) (s .args .offset) (e2 .if2 .left) (sym (e3 .before .all-idle .ensures) ∙ not-false _ (e3 .if3 .left))
+    seek-15 (s .args .line) (s .args .book .now) (s .pre) (e1 .if1 .left) (s .args .whence) (s .args .offset) (e2 .if2 .left) (sym (e3 .before .all-meet .ensures) ∙ not-false _ (e3 .if3 .left))
     (found .end-of-book .result) (moved .before .base .result) (found .end-of-book .ensures) (moved .before .base .ensures) (toZ w32 (ofZ w32 (s .args .offset))) (toZ-ofZ (s .fits .offset)) (c .refuse4 .result)
     (sym (moved .moved-by .ensures) ∙ c .before .enum-told .given .1) (c .refuse4 .ensures)
 
@@ -81,10 +81,10 @@ returns-5 c =
     let moved = c .before .before .before in
     let found = moved .before .before in
     let e3 = found .before .before .before in
-    let e2 = e3 .before .before .before in
+    let e2 = e3 .before .before in
     let e1 = e2 .before in
     let s = e1 .before .before .before in
-    seek-meets (s .args .line) (s .args .book .now) (s .pre) (e1 .if1 .left) (s .args .whence) (s .args .offset) (e2 .if2 .left) (sym (e3 .before .all-idle .ensures) ∙ not-false _ (e3 .if3 .left))
+    seek-meets (s .args .line) (s .args .book .now) (s .pre) (e1 .if1 .left) (s .args .whence) (s .args .offset) (e2 .if2 .left) (sym (e3 .before .all-meet .ensures) ∙ not-false _ (e3 .if3 .left))
     (found .end-of-book .result) (moved .before .base .result) (found .end-of-book .ensures) (moved .before .base .ensures) (toZ w32 (ofZ w32 (s .args .offset))) (toZ-ofZ (s .fits .offset)) (c .before .place .given .0 .0)
     (sym (moved .moved-by .ensures) ∙ c .before .place .given .1)
 
@@ -96,7 +96,7 @@ seek-spec =
     returns
     refuse-requires-2
     returns-2
-    all-idle-requires
+    all-meet-requires
     refuse-requires-3
     returns-3
     end-of-book-requires

@@ -37,29 +37,29 @@ returns-2 c =
     view-10 (s .args .line) (s .args .book .now) (s .pre) (e1 .if1 .left) (s .args .displacement) (s .args .extent) (s .args .used) (s .args .blocks) (made .view-of .result) (made .view-of .ensures) (c .refuse2 .result)
     (sym (c .before .before .is-ok .ensures) ∙ not-true _ (c .before .if2 .taken)) (c .refuse2 .ensures)
 
-all-idle-requires : tie.Need-all-idle-requires
-all-idle-requires c κs = search needs
+all-meet-requires : tie.Need-all-meet-requires
+all-meet-requires c κs = search needs
 
 refuse-requires-3 : tie.Need-refuse-requires-3
 refuse-requires-3 c κs = search needs
 
 returns-3 : tie.Need-returns-3
 returns-3 c =
-    let e2 = c .before .before .before .before in
-    let made = e2 .before .before in
-    let e1 = made .before in
-    let s = e1 .before .before .before in
-    view-11 (s .args .line) (s .args .book .now) (s .pre) (e1 .if1 .left) (s .args .displacement) (s .args .extent) (s .args .used) (s .args .blocks) (made .view-of .result) (made .view-of .ensures) (c .refuse3 .result)
-    (sym (e2 .before .is-ok .ensures) ∙ not-false _ (e2 .if2 .left)) (sym (c .before .before .all-idle .ensures) ∙ not-true _ (c .before .if3 .taken)) (c .refuse3 .ensures)
-
-returns-4 : tie.Need-returns-4
-returns-4 c =
     let e2 = c .before .before .before in
     let made = e2 .before .before in
     let e1 = made .before in
     let s = e1 .before .before .before in
+    view-11 (s .args .line) (s .args .book .now) (s .pre) (e1 .if1 .left) (s .args .displacement) (s .args .extent) (s .args .used) (s .args .blocks) (made .view-of .result) (made .view-of .ensures) (c .refuse3 .result)
+    (sym (e2 .before .is-ok .ensures) ∙ not-false _ (e2 .if2 .left)) (sym (c .before .before .all-meet .ensures) ∙ not-true _ (c .before .if3 .taken)) (c .refuse3 .ensures)
+
+returns-4 : tie.Need-returns-4
+returns-4 c =
+    let e2 = c .before .before in
+    let made = e2 .before .before in
+    let e1 = made .before in
+    let s = e1 .before .before .before in
     view-meets (s .args .line) (s .args .book .now) (s .pre) (e1 .if1 .left) (s .args .displacement) (s .args .extent) (s .args .used) (s .args .blocks) (made .view-of .result) (made .view-of .ensures)
-    (sym (e2 .before .is-ok .ensures) ∙ not-false _ (e2 .if2 .left)) (sym (c .before .all-idle .ensures) ∙ not-false _ (c .if3 .left))
+    (sym (e2 .before .is-ok .ensures) ∙ not-false _ (e2 .if2 .left)) (sym (c .before .all-meet .ensures) ∙ not-false _ (c .if3 .left))
 
 pub set-view-spec : {M : Type 1} → statement M
 set-view-spec =
@@ -71,7 +71,7 @@ set-view-spec =
     is-ok-requires
     refuse-requires-2
     returns-2
-    all-idle-requires
+    all-meet-requires
     refuse-requires-3
     returns-3
     returns-4)

@@ -1,6 +1,6 @@
 -- `gathered_ok` meets its contract, test by test.
 use mathlib.Core.Path.{_≡_, sym, _∙_}
-use mathlib.Core.Bool.{true}
+use mathlib.Core.Bool.{and-true, true}
 use Prim.Native.Nat.{_<_}
 use native.Mathlib.Omega.{arith}
 use lib.Dec.{ltb}
@@ -9,7 +9,6 @@ use Rattle.lists.specs.Lists.{all, any, count}
 use Rattle.lists.proofs.Maps.{any-count}
 use Rattle.line.specs.Line.{isGathered, isIdleOrGathered, on}
 use Rattle.line.specs.declared.Line.{Line}
-use Rattle.soundness.proofs.Laws.{and-true}
 use borrow.Author.Needs.{needs}
 use Rattle.soundness.proofs.gathered_ok.Statement.{statement}
 use Rattle.soundness.proofs.gathered_ok.Tie as tie

@@ -1,10 +1,9 @@
 -- `is_sound` meets its contract, sentence by sentence of document 01.
 use mathlib.Core.Path.{_≡_, sym, _∙_}
-use mathlib.Core.Bool.{true}
+use mathlib.Core.Bool.{and-true, true}
 use borrow.Author.Tests.{not-false, not-true}
 use Rattle.line.specs.Sound.{busyOk, flagsOk, gatheredOk, numbersOk, sound, turnOk}
 use Rattle.line.specs.declared.Line.{Line}
-use Rattle.soundness.proofs.Laws.{and-true}
 use borrow.Author.Needs.{needs}
 use Rattle.soundness.proofs.is_sound.Statement.{statement}
 use Rattle.soundness.proofs.is_sound.Tie as tie

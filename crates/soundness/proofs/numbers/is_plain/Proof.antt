@@ -7,7 +7,8 @@ use lib.ListN.{length}
 use lib.Dec.{eqb}
 use borrow.Author.Tests.{eq-eqb, ne-eqb}
 use Rattle.view.specs.declared.View.{View}
-use Rattle.soundness.proofs.Laws.{plain-blocks, plain-ok, unmapped}
+use Rattle.lists.proofs.Parts.{length-unmapped}
+use Rattle.soundness.proofs.Laws.{plain-blocks, plain-ok}
 use borrow.Author.Needs.{needs}
 use Rattle.soundness.proofs.numbers.is_plain.Statement.{statement}
 use Rattle.soundness.proofs.numbers.is_plain.Tie as tie
@@ -18,7 +19,7 @@ view-at c = c .before .before .before .before .before .before .before .before .a
 some-block : (c : tie.Else3) → 0 < length (view-at c .block)
 some-block c =
     let g = c .before .before .before .before .before .before .before .before .good in
-    let len : length (view-at c .block) ≡ 8 = search (unmapped, g) in
+    let len : length (view-at c .block) ≡ 8 = search (length-unmapped, g) in
     omega arith
 
 -- the tests of the three numbers pass

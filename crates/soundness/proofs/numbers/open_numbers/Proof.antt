@@ -1,11 +1,10 @@
 -- `open_numbers` meets its contract, test by test.
 use mathlib.Core.Path.{_≡_, sym, _∙_}
-use mathlib.Core.Bool.{true}
+use mathlib.Core.Bool.{and-true, true}
 use lib.Dec.{leb}
 use borrow.Author.Tests.{le-leb, lt-leb, not-false, not-true}
 use Rattle.line.specs.Line.{mostLanes, mostPointer}
 use Rattle.line.specs.declared.Line.{Line}
-use Rattle.soundness.proofs.Laws.{and-true}
 use borrow.Author.Needs.{needs}
 use Rattle.soundness.proofs.numbers.open_numbers.Statement.{statement}
 use Rattle.soundness.proofs.numbers.open_numbers.Tie as tie

@@ -1,7 +1,7 @@
 -- `unopened_numbers` meets its contract, test by test.
+use mathlib.Core.Bool.{and-true}
 use mathlib.Core.Path.{sym, _∙_}
 use borrow.Author.Tests.{eq-eqb, ne-eqb}
-use Rattle.soundness.proofs.Laws.{and-true}
 use borrow.Author.Needs.{needs}
 use Rattle.soundness.proofs.numbers.unopened_numbers.Statement.{statement}
 use Rattle.soundness.proofs.numbers.unopened_numbers.Tie as tie

@@ -1,0 +1,2 @@
+-- What a lane's call sees and changes.
+pub mod Change

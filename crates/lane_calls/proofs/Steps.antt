@@ -1,0 +1,67 @@
+-- The change that is decided is the step of document 01, and keeps what a change keeps.
+use Prim.Native.Nat.{ℕ, _≤_}
+use mathlib.Core.Path.{_≡_, subst}
+use mathlib.Core.Bool.{true}
+use mathlib.Core.List.{List}
+use native.Mathlib.Omega.{arith}
+use lib.ListN.{length}
+use Rattle.view.specs.declared.View.{View}
+use Rattle.line.specs.declared.Line.{Line}
+use Rattle.line.specs.Line.{mostLanes}
+use Rattle.line.specs.Sound.{sound}
+use Rattle.event.specs.declared.Event.{Event}
+use Rattle.steps.specs.declared.Answer.{Answer}
+use Rattle.steps.specs.Meets.{stateOf}
+use Rattle.steps.specs.Step.{callEvent}
+use Rattle.changes.specs.Change.{changed, entryOf, seenOf}
+use Rattle.changes.specs.declared.Seen.{Seen}
+use Rattle.changes.proofs.Steps.{Regular, regular-kept}
+use Rattle.turns.proofs.Steps.{free-step, receive-step, take-step, want-step}
+use Rattle.turns.proofs.Regular.{free-regular, receive-regular, take-regular, want-regular}
+use Rattle.records.proofs.Steps.{look-step, put-step, read-step, write-step}
+use Rattle.records.proofs.Regular.{look-regular, put-regular, read-regular, write-regular}
+use Rattle.lane_calls.specs.declared.Caller.{Caller}
+use Rattle.lane_calls.specs.Decided.{bookDecided, callerOf, decided}
+
+same-lane : {j i : ℕ} → Caller.Lane j ≡ Caller.Lane i → j ≡ i
+same-lane h = cc
+
+the-line : {X : Type 0} {i : ℕ} → Caller.Line ≡ Caller.Lane i → X
+the-line h = let z : _≡_ {A = ℕ} 0 1 = cc in absurd (omega arith)
+
+module _ (l : Line) (book : List ℕ) (few : l .lanes ≤ mostLanes) (ok : sound l (length book) ≡ true) where
+  -- the step of an event that is made by lane i
+  pub record Decides (e : Event) (i : ℕ) : Type 0 where
+    pub is : callEvent (stateOf l book) e ≡ changed l (entryOf i) (decided (seenOf l (entryOf i)) (l .view) (l .flag) book e) (bookDecided (seenOf l (entryOf i)) (l .view) book e)
+
+  pub decided-step : (e : Event) (i : ℕ) → callerOf e ≡ Caller.Lane i → Decides e i
+  unfolding decided bookDecided
+  decided-step (Event.Open lanes capacity) i h = the-line h
+  decided-step (Event.Want j purpose) i h = subst (λ (m : ℕ). Decides (Event.Want j purpose) m) (same-lane h) (record { is = want-step l book few ok j purpose })
+  decided-step (Event.Receive j) i h = subst (λ (m : ℕ). Decides (Event.Receive j) m) (same-lane h) (record { is = receive-step l book few ok j })
+  decided-step (Event.Take j c) i h = subst (λ (m : ℕ). Decides (Event.Take j c) m) (same-lane h) (record { is = take-step l book few ok j c })
+  decided-step (Event.Write j content) i h = subst (λ (m : ℕ). Decides (Event.Write j content) m) (same-lane h) (record { is = write-step l book few ok j content })
+  decided-step (Event.Read j) i h = subst (λ (m : ℕ). Decides (Event.Read j) m) (same-lane h) (record { is = read-step l book few ok j })
+  decided-step (Event.Put j k content) i h = subst (λ (m : ℕ). Decides (Event.Put j k content) m) (same-lane h) (record { is = put-step l book few ok j content k })
+  decided-step (Event.Look j k) i h = subst (λ (m : ℕ). Decides (Event.Look j k) m) (same-lane h) (record { is = look-step l book few ok j k })
+  decided-step (Event.Free j) i h = subst (λ (m : ℕ). Decides (Event.Free j) m) (same-lane h) (record { is = free-step l book few ok j })
+  decided-step (Event.Enter j c) i h = the-line h
+  decided-step (Event.View displacement extent used blocks) i h = the-line h
+  decided-step (Event.Seek whence offset) i h = the-line h
+  decided-step Event.Unlisted i h = the-line h
+
+pub decided-regular : (s : Seen) → s .lanes ≤ mostLanes → (v : View) (flags book : List ℕ) (e : Event) → Regular s (decided s v flags book e)
+unfolding decided
+decided-regular s few v flags book (Event.Open lanes capacity) = regular-kept s (Answer.Refused 2)
+decided-regular s few v flags book (Event.Want j purpose) = want-regular s few j flags purpose
+decided-regular s few v flags book (Event.Receive j) = receive-regular s few j
+decided-regular s few v flags book (Event.Take j c) = take-regular s few j v flags c
+decided-regular s few v flags book (Event.Write j content) = write-regular s v j
+decided-regular s few v flags book (Event.Read j) = read-regular s v j book
+decided-regular s few v flags book (Event.Put j k content) = put-regular s v j k
+decided-regular s few v flags book (Event.Look j k) = look-regular s v j book k
+decided-regular s few v flags book (Event.Free j) = free-regular s few j flags
+decided-regular s few v flags book (Event.Enter j c) = regular-kept s (Answer.Refused 2)
+decided-regular s few v flags book (Event.View displacement extent used blocks) = regular-kept s (Answer.Refused 2)
+decided-regular s few v flags book (Event.Seek whence offset) = regular-kept s (Answer.Refused 2)
+decided-regular s few v flags book Event.Unlisted = regular-kept s (Answer.Refused 2)

@@ -1,0 +1,2 @@
+-- What the calls of a lane change.
+pub mod Decided

@@ -1,0 +1,2 @@
+-- The laws that this crate's loops stand on.
+pub mod Flags

@@ -1,0 +1,2 @@
+-- What this crate's functions are held to beside the definitions of the crate `line`.
+pub mod Rules

@@ -1,0 +1,57 @@
+-- `next_after` meets its contract: the second search ends below the releaser.
+use mathlib.Core.Path.{sym, _∙_}
+use native.Mathlib.Nat.{sub-zero}
+use borrow.Author.Needs.{needs}
+use Rattle.waitlist.proofs.Lowered.{next-lowered}
+use Rattle.waitlist.proofs.next_after.Statement.{statement}
+use Rattle.waitlist.proofs.next_after.Tie as tie
+
+index-requires : tie.Need-index-requires
+index-requires c κs = search needs
+
+add-first-raised : tie.Need-add-first-raised
+add-first-raised c = search needs
+
+index-requires-2 : tie.Need-index-requires-2
+index-requires-2 c κs = search needs
+
+first-raised-requires : tie.Need-first-raised-requires
+first-raised-requires c κs = search needs
+
+enum-known-above : tie.Need-enum-known-above
+enum-known-above c = search needs
+
+enum-told : tie.Need-enum-told
+enum-told c = search needs
+
+first-raised-requires-2 : tie.Need-first-raised-requires-2
+first-raised-requires-2 c κs = search needs
+
+returns : tie.Need-returns
+returns c =
+    let s = c .before .before .before in
+    let start = s .before .before .before .before in
+    let a = start .args in
+    rw (next-lowered (a .lanes) (a .flags .now) (a .releaser) (start .pre), ← s .before .index2 .ensures, ← s .before .before .index .ensures, ← s .first-raised .ensures, c .before .above .given .1)
+
+returns-2 : tie.Need-returns-2
+returns-2 c =
+    let s = c .before .before .before in
+    let start = s .before .before .before .before in
+    let a = start .args in
+    rw (next-lowered (a .lanes) (a .flags .now) (a .releaser) (start .pre), ← s .before .index2 .ensures, ← s .before .before .index .ensures, ← s .first-raised .ensures, c .before .enum-told .given .1)
+    (rw sub-zero at (c .first-raised2 .ensures))
+
+pub next-after-spec : {M : Type 1} → statement M
+next-after-spec =
+    tie.close
+    (tie.spec
+    index-requires
+    add-first-raised
+    index-requires-2
+    first-raised-requires
+    enum-known-above
+    enum-told
+    first-raised-requires-2
+    returns
+    returns-2)
