@@ -3,4 +3,5 @@ pub mod Numbers
 pub mod Fields
 pub mod ByKind
 pub mod RoundTrip
+pub mod Lengths
 pub mod Edges

@@ -1,0 +1,2 @@
+-- The laws of the run of a sheet.
+pub mod Runs
