@@ -4,30 +4,22 @@ use borrow.Author.Tests.{le-ltb, lt-ltb}
 use borrow.Author.Needs.{needs}
 use Rattle.digits.proofs.hex_digit.Statement.{statement}
 use Rattle.digits.proofs.hex_digit.Tie as tie
-use Rattle.digits.proofs.hex_digit.Reads as reads
-use Rattle.digits.proofs.hex_digit.Lts as lts
 
--- src/lib.rt:28:23
 cast-result : tie.Need-cast-result
 cast-result c = search needs
 
--- src/lib.rt:28:16
 add-result : tie.Need-add-result
 add-result c = search needs
 
--- src/lib.rt:28:9
 returns : tie.Need-returns
 returns c = rw (lt-ltb _ _ (c .if1 .taken))
 
--- src/lib.rt:30:12
 cast-result-2 : tie.Need-cast-result-2
 cast-result-2 c = search needs
 
--- src/lib.rt:30:5
 add-result-2 : tie.Need-add-result-2
 add-result-2 c = search needs
 
--- src/lib.rt:23:1
 returns-2 : tie.Need-returns-2
 returns-2 c = rw (le-ltb _ _ (c .if1 .left)) (omega arith)
 

@@ -11,12 +11,9 @@ use Rattle.digits.proofs.Hex.{digit-small, hex-length, hex-more, rest-s
 use borrow.Author.Needs.{needs}
 use Rattle.digits.proofs.put_hex.Statement.{statement}
 use Rattle.digits.proofs.put_hex.Tie as tie
-use Rattle.digits.proofs.put_hex.Reads as reads
-use Rattle.digits.proofs.put_hex.Lts as lts
-use Rattle.digits.proofs.hex_digit.Reads as hex-digit-reads
 
 abbrev Inv-loop : tie.InvT-loop
-Inv-loop out₀ at n rest₀ unit₀ i₀ out rest unit i = 
+Inv-loop out₀ at n rest₀ unit₀ i₀ out rest unit i =
     (sets out (at + i) (hexIn (16 - i) rest) ≡ sets out₀ at (hexIn 16 n))
     × (length out ≡ length out₀)
     × (i ≤ 16)
@@ -26,41 +23,32 @@ Inv-loop out₀ at n rest₀ unit₀ i₀ out rest unit i =
 abbrev μ-loop : tie.MeasureT-loop
 μ-loop out₀ at n rest₀ unit₀ i₀ out rest unit i = 16 - i
 
--- src/lib.rt:41:5
 loop-holds : tie.Need-loop-holds Inv-loop μ-loop
 loop-holds c = (rw add-zero, refl, omega arith, refl, omega arith)
 
--- src/lib.rt:42:33
 div-hex-digit : tie.Need-div-hex-digit Inv-loop μ-loop
 div-hex-digit c = let lp = c .before .loop in unit-some (lp .i) (lp .rest) (lp .unit) (c .loop-test .taken) (lp .inv .3)
 
--- src/lib.rt:42:23
 hex-digit-requires : tie.Need-hex-digit-requires Inv-loop μ-loop
 hex-digit-requires c κs = let lp = c .before .loop in digit-small (lp .i) (lp .rest) (lp .unit) (c .loop-test .taken) (lp .inv .3) (lp .inv .4)
 
--- src/lib.rt:42:13
 add-out : tie.Need-add-out Inv-loop μ-loop
 add-out c = search needs
 
--- src/lib.rt:42:9
 slice-write-out : tie.Need-slice-write-out Inv-loop μ-loop
 slice-write-out c = search needs
 
--- src/lib.rt:43:16
 rem-rest : tie.Need-rem-rest Inv-loop μ-loop
 rem-rest c = let lp = c .before .before .loop in unit-some (lp .i) (lp .rest) (lp .unit) (c .before .loop-test .taken) (lp .inv .3)
 
--- src/lib.rt:45:9
 add-i : tie.Need-add-i Inv-loop μ-loop
 add-i c = search needs
 
--- src/lib.rt:41:5
 loop-less : tie.Need-loop-less Inv-loop μ-loop
 loop-less c = search needs
 
--- src/lib.rt:41:5
 loop-again : tie.Need-loop-again Inv-loop μ-loop
-loop-again c = 
+loop-again c =
     let t = c .before in
     let lp = t .before .loop in
     let a = t .before .before .before .args in
@@ -72,15 +60,12 @@ loop-again c =
       rest-small (lp .i) (lp .rest) (lp .unit) (t .loop-test .taken) (lp .inv .3),
     )
 
--- src/lib.rt:47:5
 add-result : tie.Need-add-result Inv-loop μ-loop
 add-result c = search needs
 
--- src/lib.rt:34:1
 same-length : tie.Need-same-length Inv-loop μ-loop
 same-length c = search needs
 
--- src/lib.rt:34:1
 returns : tie.Need-returns Inv-loop μ-loop
 unfolding hexIn
 returns c =
