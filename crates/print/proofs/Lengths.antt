@@ -1,5 +1,6 @@
 -- How long a line is at most, by the types of the numbers in it.
 use Prim.Native.Nat.{ℕ, _+_, _≤_, _<_}
+use mathlib.Core.Path.{_≡_, refl}
 use mathlib.Core.List.{List, [], _∷_}
 use native.Mathlib.Omega.{arith}
 use lib.ListN.{length}
@@ -14,7 +15,7 @@ use Rattle.waitlist.proofs.Wakes.Laws as wakes-laws
 use Rattle.steps.specs.declared.Answer.{Answer}
 use Rattle.steps.proofs.Answer as answer
 use Rattle.steps.proofs.Answer.Laws as answer-laws
-use Rattle.sheet.specs.Print.{answerLine, answerWords, decimal, endLineOf, hexIn, wakesWords, words}
+use Rattle.sheet.specs.Print.{answerLine, answerWords, decimal, decimalIn, endLineOf, hexIn, wakesWords, words}
 use Rattle.sheet.specs.Text.{ascii}
 use Rattle.digits.proofs.Decimal.{few-digits}
 use Rattle.digits.proofs.Hex.{hex-length}
@@ -92,3 +93,8 @@ line-short number a v h g = omega (arith, answer-length (decimal number) a, digi
 pub end-short : (size : ℕ) (pointer : Place) → size < 4294967296 → pointer .0 < 4294967296 → length (endLineOf size pointer) ≤ mostLine
 end-short size pointer s p =
     omega (arith, two-length (ascii "end") (decimal size) (decimal (pointer .0)), digits-32 size s, digits-32 (pointer .0) p)
+
+-- no shorter buffer takes every line
+pub longest : length (answerLine 18446744073709551615 (Answer.Region (record { 0 = 4294967295 }) 65535 Wakes.None)) ≡ mostLine
+unfolding answerWords decimalIn words
+longest = refl

@@ -133,13 +133,9 @@ fn put_values(out: &mut [u8], at: usize, answer: Answer) -> usize
     ensures { λ r. ⌜ Stored (words (answerWords answer)) (now (out .entry)) at (now (out .exit)) r ⌝ }
 {
     match answer {
-        Answer::Open { lanes, capacity } => put_two(
-            out,
-            at,
-            b"open",
-            wide8(lanes),
-            wide32(capacity),
-        ),
+        Answer::Open { lanes, capacity } => {
+            put_two(out, at, b"open", wide8(lanes), wide32(capacity))
+        }
         Answer::Holds { pointer } => put_one(out, at, b"holds", wide32(pointer.0)),
         Answer::Waits => put_word(out, at, b"waits", LINE_END),
         Answer::Region {
@@ -152,13 +148,9 @@ fn put_values(out: &mut [u8], at: usize, answer: Answer) -> usize
         Answer::None => put_word(out, at, b"none", LINE_END),
         Answer::Freed { wakes } => put_freed(out, at, wakes),
         Answer::Gathered => put_word(out, at, b"gathered", LINE_END),
-        Answer::Ordered { before, total } => put_two(
-            out,
-            at,
-            b"ordered",
-            wide32(before.0),
-            wide32(total),
-        ),
+        Answer::Ordered { before, total } => {
+            put_two(out, at, b"ordered", wide32(before.0), wide32(total))
+        }
         Answer::View => put_word(out, at, b"view", LINE_END),
         Answer::Seek { pointer } => put_one(out, at, b"seek", wide32(pointer.0)),
         Answer::Refused { number } => put_one(out, at, b"refused", wide8(number)),
