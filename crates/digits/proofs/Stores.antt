@@ -1,11 +1,9 @@
 -- Texts stored one after the other are the texts stored together.
-use Prim.Native.Nat.{ℕ, suc, _+_, _≤_}
-use mathlib.Core.Path.{_≡_, refl, _∙_}
+use Prim.Native.Nat.{ℕ, _+_}
+use mathlib.Core.Path.{refl, _∙_}
 use mathlib.Core.List.{List, [], _∷_, _++_}
 use native.Mathlib.Omega.{arith}
-use native.Mathlib.Numerals.{add-one}
 use lib.ListN.{length, length-append, set}
-use lib.Seq.{length-sets, sets}
 use Rattle.lists.proofs.Sets.{sets-append}
 use Rattle.digits.specs.Stored.{Stored}
 

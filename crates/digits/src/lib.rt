@@ -1,6 +1,6 @@
 // Numbers in decimal and in hexadecimal, stored as ASCII digits in a lent buffer.
 ghost use mathlib.Core.Path.{_≡_};
-ghost use Prim.Native.Nat.{ℕ, _+_, _≤_, _<_};
+ghost use Prim.Native.Nat.{_+_, _≤_, _<_};
 ghost use lib.ListN.{length};
 ghost use Rattle.sheet.specs.Print.{decimal, hexDigit, hexIn};
 ghost use Rattle.digits.specs.Stored.{Stored};

@@ -4,7 +4,7 @@ use view::Place;
 use waitlist::Wakes;
 ghost use mathlib.Core.Path.{_≡_};
 ghost use mathlib.Core.List.{[], _∷_, _++_};
-ghost use Prim.Native.Nat.{ℕ, _+_, _≤_, _<_};
+ghost use Prim.Native.Nat.{_+_, _≤_, _<_};
 ghost use lib.ListN.{length};
 ghost use Rattle.sheet.specs.Text.{ascii};
 ghost use Rattle.sheet.specs.Print.{answerLine, answerWords, decimal, endLineOf, hexIn, wakesWords, words};

@@ -1,10 +1,9 @@
 -- `digits::put_decimal` meets its contract: the digits before the last by the call of itself at a tenth, then the last.
-use Prim.Native.Nat.{_+_}
+use Prim.Native.Nat.{ℕ, _+_, _<_}
 use native.Mathlib.Omega.{arith}
 use borrow.Author.Needs.{needs}
 use Rattle.digits.proofs.Stores.{and-then, one-byte}
 use Rattle.digits.proofs.Decimal.{decimal-last, decimal-more, one-digit, one-more}
-use Prim.Native.Nat.{ℕ, _<_}
 use borrow.Fn.Kinds.{In}
 use borrow.Fn.PlainCycle.{Measures, is, falls, and}
 use Rattle.digits.proofs.put_decimal.Reads as put-decimal
@@ -46,7 +45,7 @@ put-decimal-add-result : (t : ℕ) → put-decimal-lts.Need-add-result (
   put-decimal-below t,
   put-decimal.Post,
 ) (put-decimal-at t) put-decimal.Post
-put-decimal-add-result t c = let s = c .before .before in omega (arith, one-digit (s .args .n) (c .if1 .taken), s .pre .1)
+put-decimal-add-result t c = omega (arith, put-decimal-slice-write-out t c)
 
 put-decimal-same-length : (t : ℕ) → put-decimal-lts.Need-same-length (
   put-decimal-below t,
@@ -94,11 +93,7 @@ put-decimal-add-result-2 : (t : ℕ) → put-decimal-lts.Need-add-result-2 (
   put-decimal-below t,
   put-decimal.Post,
 ) (put-decimal-at t) put-decimal.Post
-put-decimal-add-result-2 t c =
-    let call = c .before .before in
-    let e = call .before .before in
-    let s = e .before .before in
-    omega (arith, one-more (s .args .n) (e .if1 .left) (omega arith), s .pre .1, call .put-decimal .ensures .ends)
+put-decimal-add-result-2 t c = omega (arith, put-decimal-slice-write-out-2 t c)
 
 put-decimal-same-length-2 : (t : ℕ) → put-decimal-lts.Need-same-length-2 (
   put-decimal-below t,

@@ -1,5 +1,4 @@
 -- `print::print_answer` meets its contract: the room for the longest line, then the line.
-use Prim.Native.Nat.{_+_}
 use mathlib.Core.Path.{_≡_, ap}
 use native.Mathlib.Omega.{arith}
 use lib.ListN.{length}
