@@ -20,7 +20,8 @@ use Rattle.sheet.specs.Text.{ascii}
 use Rattle.digits.proofs.Decimal.{few-digits}
 use Rattle.digits.proofs.Hex.{hex-length}
 use Rattle.print.specs.Printing.{mostLine}
-use Rattle.print.proofs.Words.{answer-length, one-length, region-length, two-length, wakes-length}
+use Rattle.words.proofs.Words.{one-length, region-length, two-length, wakes-length}
+use Rattle.print.proofs.Answers.{answer-length}
 
 -- ---- the digits of a number of each type
 digits-8 : (n : ℕ) → n < 256 → length (decimal n) ≤ 3

@@ -2,7 +2,8 @@
 use native.Mathlib.Omega.{arith}
 use Rattle.sheet.specs.Print.{decimal}
 use Rattle.digits.proofs.Stores.{and-then}
-use Rattle.print.proofs.Words.{answer-length, before-answer, past}
+use Rattle.words.proofs.Words.{past}
+use Rattle.print.proofs.Answers.{answer-length, before-answer}
 use Rattle.print.proofs.Lengths.{line-short}
 use borrow.Author.Needs.{needs}
 use Rattle.print.proofs.put_answer.Statement.{statement}
@@ -22,7 +23,7 @@ put-values-requires c κs =
     omega (
       arith,
       s .pre,
-      past (decimal (a .number)) (call .put-number .ensures),
+      past (decimal (a .number)) _ (call .put-number .ensures),
       answer-length (decimal (a .number)) (a .answer),
       line-short (a .number) (a .answer) _ (omega arith) (s .good .1 .1 .1 .0),
     )
@@ -39,7 +40,7 @@ returns c =
       rw (before-answer (decimal (a .number)) (a .answer)) (and-then (call1 .put-number .ensures) (call2 .put-values .ensures)),
       omega (
         arith,
-        past (decimal (a .number)) (call1 .put-number .ensures),
+        past (decimal (a .number)) _ (call1 .put-number .ensures),
         call2 .put-values .ensures .ends,
         answer-length (decimal (a .number)) (a .answer),
         line-short (a .number) (a .answer) _ (omega arith) (s .good .1 .1 .1 .0),

@@ -1,14 +1,14 @@
--- `print::put_record` meets its contract: the word, the digits, the line end.
+-- `words::put_record` meets its contract: the word, the digits, the line end.
 use native.Mathlib.Omega.{arith}
 use lib.ListN.{length-set}
 use Rattle.sheet.specs.Print.{hexIn, words}
 use Rattle.sheet.specs.Text.{ascii}
 use Rattle.digits.proofs.Hex.{hex-length}
 use Rattle.digits.proofs.Stores.{and-then, one-byte}
-use Rattle.print.proofs.Words.{one-length, past}
+use Rattle.words.proofs.Words.{one-length, past}
 use borrow.Author.Needs.{needs}
-use Rattle.print.proofs.put_record.Statement.{statement}
-use Rattle.print.proofs.put_record.Tie as tie
+use Rattle.words.proofs.put_record.Statement.{statement}
+use Rattle.words.proofs.put_record.Tie as tie
 
 slice-aggregate-put-word : tie.Need-slice-aggregate-put-word
 slice-aggregate-put-word c = search needs
@@ -27,7 +27,7 @@ put-hex-requires c κs =
       s .pre,
       one-length (ascii "record") (hexIn 16 (s .args .content)),
       hex-length 16 (s .args .content),
-      past (ascii "record") (call .put-word .ensures),
+      past (ascii "record") _ (call .put-word .ensures),
     )
 
 slice-write-out : tie.Need-slice-write-out
@@ -39,7 +39,7 @@ slice-write-out c =
       arith,
       s .pre,
       one-length (ascii "record") (hexIn 16 (s .args .content)),
-      past (ascii "record") (call1 .put-word .ensures),
+      past (ascii "record") _ (call1 .put-word .ensures),
       call2 .put-hex .ensures .ends,
     )
 

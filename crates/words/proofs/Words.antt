@@ -5,10 +5,9 @@ use mathlib.Core.List.{List, [], _∷_, _++_}
 use native.Mathlib.Omega.{arith}
 use lib.ListN.{length, length-append}
 use Rattle.waitlist.specs.declared.Wakes.{Wakes}
-use Rattle.steps.specs.declared.Answer.{Answer}
 use Rattle.digits.specs.Stored.{Stored}
 use Rattle.sheet.specs.Text.{ascii}
-use Rattle.sheet.specs.Print.{answerWords, wakesWords, words}
+use Rattle.sheet.specs.Print.{wakesWords, words}
 
 -- how long a line is, by its first word
 last-length : (w : List ℕ) → length (words (w ∷ [])) ≡ length w + 1
@@ -25,9 +24,9 @@ one-length w v = omega (arith, more-length w v [], last-length v)
 pub two-length : (w v u : List ℕ) → length (words (w ∷ v ∷ u ∷ [])) ≡ length w + length v + length u + 3
 two-length w v u = omega (arith, more-length w v (u ∷ []), one-length v u)
 
--- the index after a word and a blank
-pub past : {before after : List ℕ} {at answer : ℕ} (w : List ℕ) → Stored (w ++ 32 ∷ []) before at after answer → answer ≡ at + length w + 1
-past {before} {after} {at} {answer} w s = omega (arith, s .ends, length-append w (32 ∷ []))
+-- the index after a word and the byte after it
+pub past : {before after : List ℕ} {at answer : ℕ} (w : List ℕ) (byte : ℕ) → Stored (w ++ byte ∷ []) before at after answer → answer ≡ at + length w + 1
+past {before} {after} {at} {answer} w byte s = omega (arith, s .ends, length-append w (byte ∷ []))
 
 -- a word before those of a wake, of which there is always one
 pub before-wakes : (w : List ℕ) (x : Wakes) → words (w ∷ wakesWords x) ≡ (w ++ 32 ∷ []) ++ words (wakesWords x)
@@ -40,23 +39,3 @@ wakes-length w x = rw (before-wakes w x) (simp length-append)
 
 pub region-length : (v u : List ℕ) (x : Wakes) → length (words (ascii "region" ∷ v ∷ u ∷ wakesWords x)) ≡ length v + length u + length (words (wakesWords x)) + 9
 region-length v u x = omega (arith, more-length (ascii "region") v (u ∷ wakesWords x), more-length v u (wakesWords x), wakes-length u x)
-
--- a word before those of an answer, of which there is always one
-pub before-answer : (w : List ℕ) (a : Answer) → words (w ∷ answerWords a) ≡ (w ++ 32 ∷ []) ++ words (answerWords a)
-unfolding answerWords words
-before-answer w (Answer.Open lanes capacity) = refl
-before-answer w (Answer.Holds pointer) = refl
-before-answer w Answer.Waits = refl
-before-answer w (Answer.Region start count x) = refl
-before-answer w (Answer.Wrote position) = refl
-before-answer w (Answer.Record content) = refl
-before-answer w Answer.None = refl
-before-answer w (Answer.Freed x) = refl
-before-answer w Answer.Gathered = refl
-before-answer w (Answer.Ordered before total) = refl
-before-answer w Answer.View = refl
-before-answer w (Answer.Seek pointer) = refl
-before-answer w (Answer.Refused number) = refl
-
-pub answer-length : (w : List ℕ) (a : Answer) → length (words (w ∷ answerWords a)) ≡ length w + 1 + length (words (answerWords a))
-answer-length w a = rw (before-answer w a) (simp length-append)

@@ -1,11 +1,11 @@
--- `print::put_two` meets its contract: the word, then the numbers.
+-- `words::put_two` meets its contract: the word, then the numbers.
 use native.Mathlib.Omega.{arith}
 use Rattle.sheet.specs.Print.{decimal, words}
 use Rattle.digits.proofs.Stores.{and-then}
-use Rattle.print.proofs.Words.{past, two-length}
+use Rattle.words.proofs.Words.{past, two-length}
 use borrow.Author.Needs.{needs}
-use Rattle.print.proofs.put_two.Statement.{statement}
-use Rattle.print.proofs.put_two.Tie as tie
+use Rattle.words.proofs.put_two.Statement.{statement}
+use Rattle.words.proofs.put_two.Tie as tie
 
 put-word-requires : tie.Need-put-word-requires
 put-word-requires c κs =
@@ -17,7 +17,7 @@ put-number-requires c κs =
     let call = c .before .before .before in
     let s = call .before .before .before .before in
     let word = s .args .word .now in
-    omega (arith, s .pre, two-length word (decimal (s .args .a)) (decimal (s .args .b)), past word (call .put-word .ensures))
+    omega (arith, s .pre, two-length word (decimal (s .args .a)) (decimal (s .args .b)), past word _ (call .put-word .ensures))
 
 put-number-requires-2 : tie.Need-put-number-requires-2
 put-number-requires-2 c κs =
@@ -30,8 +30,8 @@ put-number-requires-2 c κs =
       arith,
       s .pre,
       two-length word a (decimal (s .args .b)),
-      past word (call1 .put-word .ensures),
-      past a (call2 .put-number .ensures),
+      past word _ (call1 .put-word .ensures),
+      past a _ (call2 .put-number .ensures),
     )
 
 same-length : tie.Need-same-length

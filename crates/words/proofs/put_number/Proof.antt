@@ -1,8 +1,8 @@
--- `print::put_number` meets its contract: the digits, then the byte.
+-- `words::put_number` meets its contract: the digits, then the byte.
 use Rattle.digits.proofs.Stores.{and-then, one-byte}
 use borrow.Author.Needs.{needs}
-use Rattle.print.proofs.put_number.Statement.{statement}
-use Rattle.print.proofs.put_number.Tie as tie
+use Rattle.words.proofs.put_number.Statement.{statement}
+use Rattle.words.proofs.put_number.Tie as tie
 
 put-decimal-requires : tie.Need-put-decimal-requires
 put-decimal-requires c κs = search needs

@@ -1,4 +1,4 @@
--- `print::put_word` meets its contract: what is left of the word, stored from where the loop stands, gives what the word gives.
+-- `words::put_word` meets its contract: what is left of the word, stored from where the loop stands, gives what the word gives.
 use Prim.Native.Nat.{_+_, _-_, _≤_}
 use mathlib.Core.Path.{_≡_, refl, _∙_}
 use native.Mathlib.Nat.{add-zero}
@@ -11,8 +11,8 @@ use Rattle.lists.proofs.Parts.{drop-more}
 use Rattle.lists.proofs.Sets.{sets-more}
 use Rattle.digits.specs.Stored.{Stored}
 use Rattle.digits.proofs.Stores.{and-then, one-byte}
-use Rattle.print.proofs.put_word.Statement.{statement}
-use Rattle.print.proofs.put_word.Tie as tie
+use Rattle.words.proofs.put_word.Statement.{statement}
+use Rattle.words.proofs.put_word.Tie as tie
 
 abbrev Inv-loop : tie.InvT-loop
 Inv-loop out₀ at word after i₀ out i = (sets out (at + i) (drop i word) ≡ sets out₀ at word) × (length out ≡ length out₀) × (i ≤ length word)

@@ -1,11 +1,11 @@
--- `print::put_one` meets its contract: the word, then the number.
+-- `words::put_one` meets its contract: the word, then the number.
 use native.Mathlib.Omega.{arith}
 use Rattle.sheet.specs.Print.{decimal, words}
 use Rattle.digits.proofs.Stores.{and-then}
-use Rattle.print.proofs.Words.{one-length, past}
+use Rattle.words.proofs.Words.{one-length, past}
 use borrow.Author.Needs.{needs}
-use Rattle.print.proofs.put_one.Statement.{statement}
-use Rattle.print.proofs.put_one.Tie as tie
+use Rattle.words.proofs.put_one.Statement.{statement}
+use Rattle.words.proofs.put_one.Tie as tie
 
 put-word-requires : tie.Need-put-word-requires
 put-word-requires c κs =
@@ -17,7 +17,7 @@ put-number-requires c κs =
     let call = c .before .before .before in
     let s = call .before .before .before .before in
     let word = s .args .word .now in
-    omega (arith, s .pre, one-length word (decimal (s .args .n)), past word (call .put-word .ensures))
+    omega (arith, s .pre, one-length word (decimal (s .args .n)), past word _ (call .put-word .ensures))
 
 same-length : tie.Need-same-length
 same-length c = search needs

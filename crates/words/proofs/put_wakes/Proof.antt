@@ -1,9 +1,9 @@
--- `print::put_wakes` meets its contract: an arm for each case.
+-- `words::put_wakes` meets its contract: an arm for each case.
 use native.Mathlib.Omega.{arith}
 use Rattle.sheet.specs.Print.{words}
 use borrow.Author.Needs.{needs}
-use Rattle.print.proofs.put_wakes.Statement.{statement}
-use Rattle.print.proofs.put_wakes.Tie as tie
+use Rattle.words.proofs.put_wakes.Statement.{statement}
+use Rattle.words.proofs.put_wakes.Tie as tie
 
 enum-known-wakes : tie.Need-enum-known-wakes
 enum-known-wakes c = search needs

@@ -1,11 +1,11 @@
--- `print::put_freed` meets its contract: the word, then the wake.
+-- `words::put_freed` meets its contract: the word, then the wake.
 use native.Mathlib.Omega.{arith}
 use Rattle.sheet.specs.Text.{ascii}
 use Rattle.digits.proofs.Stores.{and-then}
-use Rattle.print.proofs.Words.{before-wakes, past, wakes-length}
+use Rattle.words.proofs.Words.{before-wakes, past, wakes-length}
 use borrow.Author.Needs.{needs}
-use Rattle.print.proofs.put_freed.Statement.{statement}
-use Rattle.print.proofs.put_freed.Tie as tie
+use Rattle.words.proofs.put_freed.Statement.{statement}
+use Rattle.words.proofs.put_freed.Tie as tie
 
 slice-aggregate-put-word : tie.Need-slice-aggregate-put-word
 slice-aggregate-put-word c = search needs
@@ -19,7 +19,7 @@ put-wakes-requires : tie.Need-put-wakes-requires
 put-wakes-requires c κs =
     let call = c .before .before .before in
     let s = call .before .before .before .before in
-    omega (arith, s .pre, wakes-length (ascii "freed") (s .args .wakes), past (ascii "freed") (call .put-word .ensures))
+    omega (arith, s .pre, wakes-length (ascii "freed") (s .args .wakes), past (ascii "freed") _ (call .put-word .ensures))
 
 same-length : tie.Need-same-length
 same-length c = search needs

@@ -1,12 +1,12 @@
--- `print::put_region` meets its contract: the word, the numbers, the wake.
+-- `words::put_region` meets its contract: the word, the numbers, the wake.
 use native.Mathlib.Omega.{arith}
 use Rattle.sheet.specs.Print.{decimal, words}
 use Rattle.sheet.specs.Text.{ascii}
 use Rattle.digits.proofs.Stores.{and-then}
-use Rattle.print.proofs.Words.{before-wakes, past, region-length}
+use Rattle.words.proofs.Words.{before-wakes, past, region-length}
 use borrow.Author.Needs.{needs}
-use Rattle.print.proofs.put_region.Statement.{statement}
-use Rattle.print.proofs.put_region.Tie as tie
+use Rattle.words.proofs.put_region.Statement.{statement}
+use Rattle.words.proofs.put_region.Tie as tie
 
 slice-aggregate-put-word : tie.Need-slice-aggregate-put-word
 slice-aggregate-put-word c = search needs
@@ -24,7 +24,7 @@ put-number-requires c κs =
       arith,
       s .pre,
       region-length (decimal (s .args .start)) (decimal (s .args .count)) (s .args .wakes),
-      past (ascii "region") (call .put-word .ensures),
+      past (ascii "region") _ (call .put-word .ensures),
     )
 
 put-number-requires-2 : tie.Need-put-number-requires-2
@@ -38,8 +38,8 @@ put-number-requires-2 c κs =
       arith,
       s .pre,
       region-length start count (s .args .wakes),
-      past (ascii "region") (call1 .put-word .ensures),
-      past start (call2 .put-number .ensures),
+      past (ascii "region") _ (call1 .put-word .ensures),
+      past start _ (call2 .put-number .ensures),
     )
 
 put-wakes-requires : tie.Need-put-wakes-requires
@@ -54,9 +54,9 @@ put-wakes-requires c κs =
       arith,
       s .pre,
       region-length start count (s .args .wakes),
-      past (ascii "region") (call1 .put-word .ensures),
-      past start (call2 .put-number .ensures),
-      past count (call3 .put-number2 .ensures),
+      past (ascii "region") _ (call1 .put-word .ensures),
+      past start _ (call2 .put-number .ensures),
+      past count _ (call3 .put-number2 .ensures),
     )
 
 same-length : tie.Need-same-length
