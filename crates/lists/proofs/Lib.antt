@@ -4,3 +4,4 @@ pub mod Counts
 pub mod Parts
 pub mod Loops
 pub mod Maps
+pub mod Sets

@@ -1,23 +1,18 @@
 -- Fields stored one after the other are the fields stored together.
-use Prim.Native.Nat.{ℕ, zero, suc, _+_, _-_, _*_, _/_, _%_, _^_, _≤_, _<_}
+use Prim.Native.Nat.{ℕ, zero, _+_, _-_, _*_, _/_, _%_, _^_, _≤_, _<_}
 use mathlib.Core.Path.{_≡_, refl, sym, _∙_, ap}
 use mathlib.Core.List.{List, [], _∷_, _++_, append-assoc, append-nil}
-use native.Mathlib.Nat.{add-zero, div-one}
+use native.Mathlib.Nat.{div-one}
 use native.Mathlib.Numerals.{add-one}
 use native.Mathlib.Omega.{arith}
 use lib.ListN.{length, set}
 use lib.Seq.{sets}
+use Rattle.lists.proofs.Sets.{sets-append}
 use Rattle.event.specs.BigEndian.{bigEndian}
 use Rattle.event.specs.Event.{bytesOf}
 use Rattle.event.proofs.Fields.{bytes-length, total}
 use Rattle.event.proofs.Numbers.{big-endian-split}
 use Rattle.pack.specs.Put.{putAt}
-
-sets-append : (xs ys l : List ℕ) (i : ℕ) → sets (sets l i xs) (i + length xs) ys ≡ sets l i (xs ++ ys)
-sets-append [] ys l i = rw (add-zero i)
-sets-append (x ∷ xs) ys l i =
-    let e : i + suc (length xs) ≡ suc i + length xs = omega arith in
-    rw e (sets-append xs ys (set l i x) (suc i))
 
 bytes-append : (ns vs ms ws : List ℕ) → length ns ≡ length vs → bytesOf (ns ++ ms) (vs ++ ws) ≡ bytesOf ns vs ++ bytesOf ms ws
 unfolding bytesOf

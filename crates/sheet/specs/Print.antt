@@ -4,6 +4,7 @@ use mathlib.Core.Bool.{Bool, true, false, cond}
 use mathlib.Core.List.{List, [], _∷_, _++_}
 use lib.ListN.{length, replicate}
 use lib.Dec.{ltb, leb}
+use Rattle.view.specs.declared.Place.{Place}
 use Rattle.line.specs.Line.{unopened}
 use Rattle.waitlist.specs.declared.Wakes.{Wakes}
 use Rattle.steps.specs.State.{State}
@@ -56,13 +57,19 @@ answerWords (Answer.Seek pointer) = ascii "seek" ∷ decimal (pointer .0) ∷ []
 answerWords (Answer.Refused number) = ascii "refused" ∷ decimal number ∷ []
 
 -- "a line an event: its number from 0, the answer, its values"
+abbrev pub answerLine : ℕ → Answer → List ℕ
+answerLine number answer = words (decimal number ∷ answerWords answer)
+
 unfoldable pub answerLines : ℕ → List Answer → List ℕ
 answerLines k [] = []
-answerLines k (a ∷ as′) = words (decimal k ∷ answerWords a) ++ answerLines (suc k) as′
+answerLines k (a ∷ as′) = answerLine k a ++ answerLines (suc k) as′
 
 -- "Last comes `end`, size, pointer"
+abbrev pub endLineOf : ℕ → Place → List ℕ
+endLineOf size pointer = words (ascii "end" ∷ decimal size ∷ decimal (pointer .0) ∷ [])
+
 abbrev pub endLine : State → List ℕ
-endLine x = words (ascii "end" ∷ decimal (x .line .size) ∷ decimal (x .line .pointer .0) ∷ [])
+endLine x = endLineOf (x .line .size) (x .line .pointer)
 
 abbrev pub printed : Ran → List ℕ
 printed r = answerLines 0 (r .answers) ++ endLine (r .after)

@@ -1,0 +1,2 @@
+-- The laws of lines of words.
+pub mod Words
