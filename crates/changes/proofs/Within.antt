@@ -61,7 +61,7 @@ module _ (l : Line) (n : ℕ) (G : Good l n) (i : ℕ) where
         writer = rw idle;
       }
 
-  within-good : Within (seenOf l i) (l .view) n
+  pub within-good : Within (seenOf l i) (l .view) n
   within-good = elim (decLt 0 (l .lanes)) [ yes h ↦ within-open h | no h ↦ within-unopened (omega arith) ]
 
 pub within-of : (l : Line) (n : ℕ) → Shaped l → sound l n ≡ true → (i : ℕ) → Within (seenOf l i) (l .view) n

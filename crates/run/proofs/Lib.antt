@@ -1,0 +1,4 @@
+-- The laws of the run.
+pub mod Last
+pub mod Going
+pub mod Stores

@@ -1,0 +1,324 @@
+-- `run_sound` meets its contract: each turn of the loop is one event of the run.
+use Prim.Native.Nat.{ℕ, _+_, _-_, _*_, _≤_, _<_}
+use mathlib.Core.Path.{_≡_, refl, sym, ap, _∙_}
+use native.Mathlib.Omega.{arith}
+use lib.ListN.{length}
+use borrow.Author.Needs.{needs}
+use Rattle.steps.specs.Meets.{stateOf}
+use Rattle.line.proofs.Facts.{good-of}
+use Rattle.changes.specs.Change.{entryOf, seenOf}
+use Rattle.changes.specs.declared.Seen.{Seen}
+use Rattle.changes.proofs.Within.{within-good}
+use Rattle.lane_calls.specs.declared.Caller.{Caller}
+use Rattle.lane_calls.specs.Decided.{callerOf}
+use Rattle.event.specs.ReadWrite.{readAt}
+use Rattle.event.specs.declared.Cursor.{Cursor}
+use Rattle.event.specs.declared.Event.{Event}
+use Rattle.event.specs.declared.Reading.{Reading}
+use Rattle.event.proofs.Lengths.{reads}
+use Rattle.reader.specs.Reader.{afterReading}
+use Rattle.reader.specs.declared.Step.{Step}
+use Rattle.refusals.proofs.Shape.{shape-of}
+use Rattle.run.proofs.Stores.{met, none-called, seenWith, sees-line, woken-called}
+use Rattle.run.proofs.Going.{Going, ends, goes-on, is-sound, starts}
+use Rattle.run.proofs.run_sound.Statement.{statement}
+use Rattle.run.proofs.run_sound.Tie as tie
+
+abbrev Inv-loop : tie.InvT-loop
+Inv-loop book₀ sheet out₀ next₀ gathering₀ at₀ length₀ number₀ book out next gathering at len number =
+    Going sheet (stateOf next₀ book₀) out₀ next book out at len number gathering
+
+abbrev μ-loop : tie.MeasureT-loop
+μ-loop book₀ sheet out₀ next₀ gathering₀ at₀ length₀ number₀ book out next gathering at len number = length sheet - at
+
+-- ---- the places on the way of a turn, and what is known there
+abbrev start-of : tie.After-any-gathered Inv-loop μ-loop → tie.Start Inv-loop μ-loop
+start-of c = c .before .before .before .before .before
+
+abbrev start : tie.At-loop Inv-loop μ-loop → tie.Start Inv-loop μ-loop
+start l = start-of (l .before)
+
+abbrev loop-at : tie.After-event-at Inv-loop μ-loop → tie.At-loop Inv-loop μ-loop
+loop-at c = c .before
+
+abbrev event-of : tie.After-caller-of Inv-loop μ-loop → tie.After-event-at Inv-loop μ-loop
+event-of c = c .before .before .before .before
+
+-- the caller of the whole line's arm, and of the lane's
+abbrev line-caller : tie.After-any-gathered2 Inv-loop μ-loop → tie.After-caller-of Inv-loop μ-loop
+line-caller c = c .before .before .before .before .before .before .before .before .before .before .before .before .before
+
+abbrev decide-at : tie.After-enum-told2 Inv-loop μ-loop → tie.After-decide Inv-loop μ-loop
+decide-at c = c .before .before .before .before .before .before .before .before .before
+
+abbrev decide-at-woken : tie.After-wake-with Inv-loop μ-loop → tie.After-decide Inv-loop μ-loop
+decide-at-woken c = c .before .before .before .before .before .before .before .before .before .before .before .before .before
+
+abbrev caller-at : tie.After-decide Inv-loop μ-loop → tie.After-caller-of Inv-loop μ-loop
+caller-at d = d .before .before .before .before .before .before .before .before .before .before .before .before .before
+
+-- what was read
+reading-is : (c : tie.After-event-at Inv-loop μ-loop) → readAt (start (loop-at c) .args .sheet .now) (loop-at c .loop .at) ≡ c .event-at .result .reading
+reading-is c = sym (ap (λ (s : Step). s .reading) (c .event-at .ensures))
+
+abbrev told-at : tie.After-caller-of Inv-loop μ-loop → tie.After-reading Inv-loop μ-loop
+told-at c = c .before .before
+
+abbrev event : tie.After-caller-of Inv-loop μ-loop → Event
+event c = told-at c .reading .given .0 .0
+
+abbrev cursor : tie.After-caller-of Inv-loop μ-loop → Cursor
+cursor c = told-at c .reading .given .0 .1 .0
+
+event-is : (c : tie.After-caller-of Inv-loop μ-loop) → readAt (start (loop-at (event-of c)) .args .sheet .now) (loop-at (event-of c) .loop .at) ≡ Reading.Event (event c) (cursor c)
+event-is c = reading-is (event-of c) ∙ told-at c .reading .given .1
+
+-- where the cursor goes
+at-is : (c : tie.After-caller-of Inv-loop μ-loop) → event-of c .event-at .result .at ≡ cursor c .at
+at-is c =
+    ap (λ (s : Step). s .at) (event-of c .event-at .ensures) ∙ ap (afterReading (loop-at (event-of c) .loop .at)) (event-is c)
+
+less : (c : tie.After-caller-of Inv-loop μ-loop) → length (start (loop-at (event-of c)) .args .sheet .now) - event-of c .event-at .result .at < length (start (loop-at (event-of c)) .args .sheet .now) - loop-at (event-of c) .loop .at
+less c =
+    let r = reads _ _ (event c) (cursor c) (event-is c) in
+    omega (arith, at-is c, r .longer, r .within)
+
+-- two lines more fit
+room : (l : tie.At-loop Inv-loop μ-loop) → l .loop .length + 112 ≤ length (l .loop .out)
+room l =
+    let inv = l .loop .inv in
+    omega (arith, inv .short, inv .inside, inv .out-length, start l .pre .1)
+
+-- ---- what a lane sees
+abbrev entry-at : tie.After-decide Inv-loop μ-loop → tie.After-entry-of Inv-loop μ-loop
+entry-at d = d .before .before .before .before .before .before .before .before .before
+
+abbrev entry-caller : tie.After-entry-of Inv-loop μ-loop → tie.After-caller-of Inv-loop μ-loop
+entry-caller e = e .before .before .before .before
+
+abbrev entry-loop : tie.After-entry-of Inv-loop μ-loop → tie.At-loop Inv-loop μ-loop
+entry-loop e = loop-at (event-of (entry-caller e))
+
+abbrev lane-of : tie.After-entry-of Inv-loop μ-loop → ℕ
+lane-of e = e .before .before .caller .given .0 .0
+
+abbrev seen-at : tie.After-entry-of Inv-loop μ-loop → Seen
+seen-at e = seenWith (entry-loop e .loop .next) (e .entry-of .result) (entry-loop e .loop .gathering)
+
+sees : (e : tie.After-entry-of Inv-loop μ-loop) → seen-at e ≡ seenOf (entry-loop e .loop .next) (entryOf (lane-of e))
+sees e =
+    sees-line (entry-loop e .loop .next) (e .entry-of .result) (entryOf (lane-of e)) (entry-loop e .loop .gathering) (e .entry-of .ensures .0) (entry-loop e .loop .inv .gathered)
+
+by-lane : (e : tie.After-entry-of Inv-loop μ-loop) → callerOf (event (entry-caller e)) ≡ Caller.Lane (lane-of e)
+by-lane e = sym (entry-caller e .caller-of .ensures) ∙ e .before .before .caller .given .1
+
+any-gathered-requires : tie.Need-any-gathered-requires Inv-loop μ-loop
+any-gathered-requires c κs = search needs
+
+loop-holds : tie.Need-loop-holds Inv-loop μ-loop
+loop-holds c = let s = start-of c in
+    starts (s .args .sheet .now) (s .args .line) (s .args .book .now) (s .args .out .now) _ (good-of (s .args .line) (length (s .args .book .now)) (shape-of (s .args .line) (s .good .0)) (s .pre .0)) (c .any-gathered .ensures)
+
+event-at-requires : tie.Need-event-at-requires Inv-loop μ-loop
+event-at-requires c κs = search needs
+
+enum-known-reading : tie.Need-enum-known-reading Inv-loop μ-loop
+enum-known-reading c = search needs
+
+put-last-requires : tie.Need-put-last-requires Inv-loop μ-loop
+put-last-requires c κs = search needs
+
+same-length : tie.Need-same-length Inv-loop μ-loop
+same-length c = search needs
+
+same-length-2 : tie.Need-same-length-2 Inv-loop μ-loop
+same-length-2 c = search needs
+
+returns : tie.Need-returns Inv-loop μ-loop
+returns c =
+    let p = c .before .before in
+    let m = p .before .before in
+    let ev = m .before in
+    let l = ev .before in
+    ends _ _ _ _ _ _ _ _ _ _ (l .loop .inv) (ev .event-at .result .reading) _ _ (m .match .keys2) (reading-is ev) (p .put-last .ensures) (start l .pre .0)
+
+caller-of-requires : tie.Need-caller-of-requires Inv-loop μ-loop
+caller-of-requires c κs = search needs
+
+enum-told : tie.Need-enum-told Inv-loop μ-loop
+enum-told c = search needs
+
+call-line-requires : tie.Need-call-line-requires Inv-loop μ-loop
+call-line-requires c κs =
+    let told = c .before in
+    let co = told .before .before in
+    let l = loop-at (event-of co) in
+    (is-sound _ _ _ _ _ _ _ _ _ _ (l .loop .inv), sym (co .caller-of .ensures) ∙ told .enum-told .given .1)
+
+put-answer-requires : tie.Need-put-answer-requires Inv-loop μ-loop
+put-answer-requires c κs = omega (arith, room (loop-at (event-of (c .before .before .before .before .before .before .before))))
+
+add-number : tie.Need-add-number Inv-loop μ-loop
+add-number c =
+    let l = loop-at (event-of (c .before .before .before .before .before .before .before .before .before .before)) in
+    omega (arith, l .loop .inv .numbered)
+
+any-gathered-requires-2 : tie.Need-any-gathered-requires-2 Inv-loop μ-loop
+any-gathered-requires-2 c κs = search needs
+
+loop-less : tie.Need-loop-less Inv-loop μ-loop
+loop-less c =
+    less (line-caller c)
+
+loop-again : tie.Need-loop-again Inv-loop μ-loop
+loop-again c =
+    let co = line-caller c in
+    let l = loop-at (event-of co) in
+    let k = c .before .before .before .before .before .before .before .before .before in
+    let p = c .before .before .before .before .before in
+    goes-on _ _ _ _ _ _ _ _ _ _ (l .loop .inv) (event co) (cursor co) (event-is co) (k .call-line .result .answer) (k .call-line .result .line) _ (met _ _ _ (k .call-line .ensures))
+    _ _ (p .put-answer .ensures .0) (p .put-answer .ensures .1) _ (c .any-gathered2 .ensures) (k .call-line .kept .1 .0) (p .put-answer .kept .0) _ (at-is co)
+
+enum-known-caller : tie.Need-enum-known-caller Inv-loop μ-loop
+enum-known-caller c = search needs
+
+entry-of-requires : tie.Need-entry-of-requires Inv-loop μ-loop
+entry-of-requires c κs = search needs
+
+mul-own : tie.Need-mul-own Inv-loop μ-loop
+mul-own c = search needs
+
+element-copy-out-own : tie.Need-element-copy-out-own Inv-loop μ-loop
+element-copy-out-own c = search needs
+
+element-copy-out-t53 : tie.Need-element-copy-out-t53 Inv-loop μ-loop
+element-copy-out-t53 c = search needs
+
+decide-requires : tie.Need-decide-requires Inv-loop μ-loop
+decide-requires c κs =
+    let e = c .before .before .before .before .before .before .before .before in
+    let l = entry-loop e in
+    rw (sees e) (within-good (l .loop .next) (length (l .loop .book)) (l .loop .inv .good) (entryOf (lane-of e)))
+
+put-answer-requires-2 : tie.Need-put-answer-requires-2 Inv-loop μ-loop
+put-answer-requires-2 c κs = omega (arith, room (loop-at (event-of (caller-at (c .before .before .before)))))
+
+add-number-2 : tie.Need-add-number-2 Inv-loop μ-loop
+add-number-2 c =
+    let l = loop-at (event-of (caller-at (c .before .before .before .before .before .before))) in
+    omega (arith, l .loop .inv .numbered)
+
+element-write-next : tie.Need-element-write-next Inv-loop μ-loop
+element-write-next c = search needs
+
+mul-t44 : tie.Need-mul-t44 Inv-loop μ-loop
+mul-t44 c = search needs
+
+element-set-from-next : tie.Need-element-set-from-next Inv-loop μ-loop
+element-set-from-next c = search needs
+
+enum-known-wakes : tie.Need-enum-known-wakes Inv-loop μ-loop
+enum-known-wakes c = search needs
+
+entry-of-requires-2 : tie.Need-entry-of-requires-2 Inv-loop μ-loop
+entry-of-requires-2 c κs = search needs
+
+mul-sleeper : tie.Need-mul-sleeper Inv-loop μ-loop
+mul-sleeper c = search needs
+
+element-copy-out-sleeper : tie.Need-element-copy-out-sleeper Inv-loop μ-loop
+element-copy-out-sleeper c = search needs
+
+wake-with-requires : tie.Need-wake-with-requires Inv-loop μ-loop
+wake-with-requires c κs = search needs
+
+mul-t65 : tie.Need-mul-t65 Inv-loop μ-loop
+mul-t65 c = search needs
+
+element-set-from-next-2 : tie.Need-element-set-from-next-2 Inv-loop μ-loop
+element-set-from-next-2 c = search needs
+
+loop-less-2 : tie.Need-loop-less-2 Inv-loop μ-loop
+loop-less-2 c =
+    less (caller-at (decide-at-woken c))
+
+loop-again-2 : tie.Need-loop-again-2 Inv-loop μ-loop
+loop-again-2 c =
+    let d = decide-at-woken c in
+    let e = entry-at d in
+    let co = entry-caller e in
+    let l = entry-loop e in
+    let p = c .before .before .before .before .before .before .before .before .before in
+    let w = c .before .before .before .before in
+    let wake = c .before .before in
+    let G = l .loop .inv in
+    let done = woken-called (l .loop .next) (l .loop .book) (G .good .facts .base .few) (is-sound _ _ _ _ _ _ _ _ _ _ G) (event co) (lane-of e) (by-lane e)
+    (d .decide .result) _ (seen-at e) (sees e) (d .decide .ensures .0) (d .decide .ensures .1) (e .entry-of .result) (w .wakes .given .0 .0) (wake .entry-of2 .result) (c .wake-with .result) (e .entry-of .ensures .0) (w .wakes .given .1) (wake .entry-of2 .ensures .0) (c .wake-with .ensures) in
+    goes-on _ _ _ _ _ _ _ _ _ _ G (event co) (cursor co) (event-is co) (d .decide .result .answer) _ _ (done .called)
+    _ _ (p .put-answer2 .ensures .0) (p .put-answer2 .ensures .1) _ (G .gathered ∙ sym (done .gathered)) (d .decide .kept .1 .1 .1 .0) (p .put-answer2 .kept .0) _ (at-is co)
+
+enum-told-2 : tie.Need-enum-told-2 Inv-loop μ-loop
+enum-told-2 c = search needs
+
+loop-less-3 : tie.Need-loop-less-3 Inv-loop μ-loop
+loop-less-3 c =
+    less (caller-at (decide-at c))
+
+loop-again-3 : tie.Need-loop-again-3 Inv-loop μ-loop
+loop-again-3 c =
+    let d = decide-at c in
+    let e = entry-at d in
+    let co = entry-caller e in
+    let l = entry-loop e in
+    let p = c .before .before .before .before .before in
+    let G = l .loop .inv in
+    let done = none-called (l .loop .next) (l .loop .book) (G .good .facts .base .few) (is-sound _ _ _ _ _ _ _ _ _ _ G) (event co) (lane-of e) (by-lane e)
+    (d .decide .result) _ (seen-at e) (sees e) (d .decide .ensures .0) (d .decide .ensures .1) (e .entry-of .result) (e .entry-of .ensures .0) (c .enum-told2 .given .1) in
+    goes-on _ _ _ _ _ _ _ _ _ _ G (event co) (cursor co) (event-is co) (d .decide .result .answer) _ _ (done .called)
+    _ _ (p .put-answer2 .ensures .0) (p .put-answer2 .ensures .1) _ (G .gathered ∙ sym (done .gathered)) (d .decide .kept .1 .1 .1 .0) (p .put-answer2 .kept .0) _ (at-is co)
+
+pub run-sound-spec : {M : Type 1} → statement M
+run-sound-spec =
+    tie.close
+    (tie.spec
+    Inv-loop
+    μ-loop
+    any-gathered-requires
+    loop-holds
+    event-at-requires
+    enum-known-reading
+    put-last-requires
+    same-length
+    same-length-2
+    returns
+    caller-of-requires
+    enum-told
+    call-line-requires
+    put-answer-requires
+    add-number
+    any-gathered-requires-2
+    loop-less
+    loop-again
+    enum-known-caller
+    entry-of-requires
+    mul-own
+    element-copy-out-own
+    element-copy-out-t53
+    decide-requires
+    put-answer-requires-2
+    add-number-2
+    element-write-next
+    mul-t44
+    element-set-from-next
+    enum-known-wakes
+    entry-of-requires-2
+    mul-sleeper
+    element-copy-out-sleeper
+    wake-with-requires
+    mul-t65
+    element-set-from-next-2
+    loop-less-2
+    loop-again-2
+    enum-told-2
+    loop-less-3
+    loop-again-3)

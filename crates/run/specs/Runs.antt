@@ -1,0 +1,52 @@
+-- What the run of a sheet answers and leaves: the line, the book, and the printed lines in a lent buffer.
+use Prim.Native.Nat.{ℕ, _+_, _*_}
+use mathlib.Core.Bool.{Bool, cond}
+use mathlib.Core.List.{List, _++_}
+use mathlib.Core.Path.{_≡_}
+use lib.Dec.{leb}
+use lib.ListN.{length}
+use lib.Seq.{sets}
+use Rattle.line.specs.declared.Line.{Line}
+use Rattle.event.specs.declared.Reading.{Reading}
+use Rattle.steps.specs.State.{State}
+use Rattle.steps.specs.declared.Answer.{Answer}
+use Rattle.sheet.specs.Print.{answerLine, endLineOf, printed}
+use Rattle.sheet.specs.Run.{run}
+use Rattle.print.specs.declared.Printed.{Printed}
+use Rattle.run.specs.declared.RunOutcome.{RunOutcome}
+
+-- no text is longer than this, for a sheet of n bytes: an event has two bytes at least and a line 56 at most; the last two lines are counted apart
+abbrev pub mostText : ℕ → ℕ
+mostText n = 28 * n + 112
+
+abbrev pub hasRoom : List ℕ → List ℕ → Bool
+hasRoom sheet out = leb (mostText (length sheet)) (length out)
+
+-- what a run leaves, in the line and the book, and in the buffer for the text; where that may be too short, all as it was
+abbrev pub leftBy : State → List ℕ → List ℕ → State
+leftBy x sheet out = cond (hasRoom sheet out) (run x sheet .after) x
+
+abbrev pub textIn : State → List ℕ → List ℕ → List ℕ
+textIn x sheet out = cond (hasRoom sheet out) (sets out 0 (printed (run x sheet))) out
+
+abbrev pub printedBy : State → List ℕ → List ℕ → Printed
+printedBy x sheet out = cond (hasRoom sheet out) (Printed.Length (length (printed (run x sheet)))) Printed.TooShort
+
+pub record RunMeets (x : State) (sheet out : List ℕ) (r : RunOutcome) (book-left out-left : List ℕ) : Type 0 where
+  pub answer : r .printed ≡ printedBy x sheet out
+  pub line : r .line ≡ leftBy x sheet out .line
+  pub book : book-left ≡ leftBy x sheet out .book
+  pub text : out-left ≡ textIn x sheet out
+
+-- the same where there is room
+pub record RunSound (x : State) (sheet out : List ℕ) (r : RunOutcome) (book-left out-left : List ℕ) : Type 0 where
+  pub answer : r .printed ≡ Printed.Length (length (printed (run x sheet)))
+  pub line : r .line ≡ run x sheet .after .line
+  pub book : book-left ≡ run x sheet .after .book
+  pub text : out-left ≡ sets out 0 (printed (run x sheet))
+
+-- the last lines: of bytes that are no event their refusal, numbered k, and then `end`
+abbrev pub lastLines : ℕ → Reading → Line → List ℕ
+lastLines k (Reading.Event e next) l = endLineOf (l .size) (l .pointer)
+lastLines k Reading.End l = endLineOf (l .size) (l .pointer)
+lastLines k (Reading.Refused n) l = answerLine k (Answer.Refused n) ++ endLineOf (l .size) (l .pointer)

@@ -1,0 +1,149 @@
+// The run of a sheet: its events one after the other on one line and one lent book, with the printed lines in a lent buffer.
+ghost use Prim.Native.Nat.{_+_, _*_, _≤_};
+ghost use mathlib.Core.Bool.{true};
+ghost use mathlib.Core.Path.{_≡_};
+ghost use lib.Dec.{leb};
+ghost use lib.ListN.{length};
+ghost use Rattle.line.specs.Sound.{sound};
+ghost use Rattle.steps.specs.Meets.{stateOf};
+ghost use Rattle.digits.specs.Stored.{Stored};
+ghost use Rattle.run.specs.Runs.{RunMeets, RunSound, lastLines, mostText};
+use changes::Seen;
+use changes::entry_of;
+use changes::phases::wake_with;
+use event::Reading;
+use lane_calls::Caller;
+use lane_calls::caller_of;
+use lane_calls::decide;
+use lanes::tallies::any_gathered;
+use line::Lane;
+use line::Line;
+use line_calls::call_line;
+use print::Printed;
+use print::put_answer;
+use print::put_end;
+use reader::event_at;
+use soundness::is_sound;
+use steps::Answer;
+use waitlist::Wakes;
+
+// What a run gives: the line as it leaves it, and the length of the text, or that the buffer lent for the text is too short.
+pub struct RunOutcome {
+    pub line: Line,
+    pub printed: Printed,
+}
+
+// Whether a buffer takes the text of any sheet of this length: 28 bytes for each byte of the sheet, and two lines more.
+fn has_room(sheet: usize, out: usize) -> bool
+    ensures { λ r. ⌜ r ≡ leb (mostText sheet) out ⌝ }
+{
+    if out < 112 {
+        return false;
+    }
+    sheet <= (out - 112) / 28
+}
+
+// The last lines: the refusal of bytes that are no event, where there is one, and `end` with the size and the pointer.
+fn put_last(line: Line, reading: Reading, out: &mut [u8], at: usize, number: u64) -> usize
+    requires { ⌜ at + 112 ≤ length (now out) ⌝ }
+    ensures { λ r. ⌜ Stored (lastLines number reading line) (now (out .entry)) at (now (out .exit)) r ⌝ }
+{
+    let pointer = line.pointer;
+    let Reading::Refused(refusal) = reading else {
+        return put_end(out, at, line.size, pointer);
+    };
+    let next = put_answer(out, at, number, Answer::Refused { number: refusal });
+    put_end(out, next, line.size, pointer)
+}
+
+// The run on a sound line, which stays in one local; a change of a lane is stored by its index.
+fn run_sound(line: Line, book: &mut [u8], sheet: &[u8], out: &mut [u8]) -> RunOutcome
+    requires { ⌜ (sound line (length (now book)) ≡ true) × (mostText (length (now sheet)) ≤ length (now out)) ⌝ }
+    ensures { λ r. ⌜ RunSound (stateOf line (now (book .entry))) (now (sheet .entry)) (now (out .entry)) r (now (book .exit)) (now (out .exit)) ⌝ }
+{
+    let mut next = line;
+    let lanes = next.lane;
+    let mut gathering = any_gathered(lanes);
+    let mut at: usize = 0;
+    let mut length: usize = 0;
+    let mut number: u64 = 0;
+    loop {
+        let step = event_at(sheet, at);
+        let reading = step.reading;
+        let Reading::Event { event, next: _ } = reading else {
+            let end = put_last(next, reading, out, length, number);
+            return RunOutcome {
+                line: next,
+                printed: Printed::Length(end),
+            };
+        };
+        at = step.at;
+        let caller = caller_of(event);
+        match caller {
+            Caller::Line => {
+                let called = call_line(next, book, event);
+                let answer = called.answer;
+                length = put_answer(out, length, number, answer);
+                number += 1;
+                let after = called.line;
+                let lanes = after.lane;
+                gathering = any_gathered(lanes);
+                next = after;
+            }
+            Caller::Lane(lane) => {
+                let i = entry_of(lane);
+                let own = next.lane[i];
+                let phase = own.phase;
+                let pointer = next.pointer;
+                let seen = Seen {
+                    lanes: next.lanes,
+                    capacity: next.capacity,
+                    size: next.size,
+                    pointer,
+                    gathering,
+                    phase,
+                    flag: next.flag[i],
+                };
+                let change = decide(seen, next.view, &next.flag, book, event);
+                let answer = change.answer;
+                length = put_answer(out, length, number, answer);
+                number += 1;
+                let changed = change.phase;
+                let moved = change.pointer;
+                next.flag[i] = change.flag;
+                next.lane[i] = Lane { phase: changed };
+                next.pointer = moved;
+                next.size = change.size;
+                let wakes = change.wakes;
+                if let Wakes::Lane(woken) = wakes {
+                    let w = entry_of(woken);
+                    let sleeper = next.lane[w];
+                    let waiting = sleeper.phase;
+                    next.lane[w] = Lane {
+                        phase: wake_with(moved, waiting),
+                    };
+                }
+            }
+        }
+    }
+}
+
+// The run of a sheet, with the printed lines at the start of a lent buffer; a buffer that might be too short for them changes nothing.
+pub fn run(line: Line, book: &mut [u8], sheet: &[u8], out: &mut [u8]) -> RunOutcome
+    ensures { λ r. ⌜ RunMeets (stateOf line (now (book .entry))) (now (sheet .entry)) (now (out .entry)) r (now (book .exit)) (now (out .exit)) ⌝ }
+{
+    if !has_room(sheet.len(), out.len()) {
+        return RunOutcome {
+            line,
+            printed: Printed::TooShort,
+        };
+    }
+    if !is_sound(line, book.len()) {
+        let end = put_last(line, Reading::Refused(1), out, 0, 0);
+        return RunOutcome {
+            line,
+            printed: Printed::Length(end),
+        };
+    }
+    run_sound(line, book, sheet, out)
+}
