@@ -1,46 +1,41 @@
+-- `calls_test::book::fill` is safe and ends. The measure is the number of bytes that are left.
+use Prim.Native.Nat.{_-_, _≤_}
+use native.Mathlib.Omega.{arith}
+use lib.ListN.{length, length-set}
+use mathlib.Core.Path.{_≡_}
+use borrow.Author.Needs.{needs}
 use Rattle.calls_test.proofs.book.fill.Statement.{statement}
 use Rattle.calls_test.proofs.book.fill.Tie as tie
-use Rattle.calls_test.proofs.book.fill.Reads as reads
-use Rattle.calls_test.proofs.book.fill.Lts as lts
-use Rattle.calls_test.proofs.book.fresh.Reads as fresh-reads
 
 abbrev Inv-loop : tie.InvT-loop
-Inv-loop book₀ i₀ book i = ?
+Inv-loop book₀ i₀ book i = (length book ≡ length book₀) × (i ≤ length book₀)
 
 abbrev μ-loop : tie.MeasureT-loop
-μ-loop book₀ i₀ book i = ?
+μ-loop book₀ i₀ book i = length book₀ - i
 
--- src/book.rt:16:5
 loop-holds : tie.Need-loop-holds Inv-loop μ-loop
-loop-holds c = ?
+loop-holds c = search needs
 
--- src/book.rt:17:19
 fresh-requires : tie.Need-fresh-requires Inv-loop μ-loop
-fresh-requires c κs = ?
+fresh-requires c κs = search needs
 
--- src/book.rt:17:9
 slice-write-book : tie.Need-slice-write-book Inv-loop μ-loop
-slice-write-book c = ?
+slice-write-book c = search needs
 
--- src/book.rt:18:9
 add-i : tie.Need-add-i Inv-loop μ-loop
-add-i c = ?
+add-i c = search needs
 
--- src/book.rt:16:5
 loop-less : tie.Need-loop-less Inv-loop μ-loop
-loop-less c = ?
+loop-less c = search needs
 
--- src/book.rt:16:5
 loop-again : tie.Need-loop-again Inv-loop μ-loop
-loop-again c = ?
+loop-again c = (simp length-set (c .before .before .loop .inv .0), omega arith)
 
--- src/book.rt:14:1
 same-length : tie.Need-same-length Inv-loop μ-loop
-same-length c = ?
+same-length c = search needs
 
--- src/book.rt:14:1
 returns : tie.Need-returns Inv-loop μ-loop
-returns c = ?
+returns c = search needs
 
 pub fill-spec : {M : Type 1} → statement M
 fill-spec =
