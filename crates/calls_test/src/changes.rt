@@ -1,11 +1,4 @@
 // Prints a case: the call, its answer, and all that it changed in the line and in the book.
-use line::Lane;
-use line::Line;
-use line::MOST_LANES;
-use steps::Outcome;
-use view::Block;
-use view::View;
-
 use crate::book::first_changed;
 use crate::book::print_bytes;
 use crate::same::same_lane;
@@ -15,9 +8,15 @@ use crate::words::number;
 use crate::words::print_answer;
 use crate::words::print_phase;
 use crate::words::text;
+use crate::words::wide8;
 use crate::words::wide16;
 use crate::words::wide32;
-use crate::words::wide8;
+use line::Lane;
+use line::Line;
+use line::MOST_LANES;
+use steps::Outcome;
+use view::Block;
+use view::View;
 
 // A number that is not as it was.
 fn print_number(lead: &[u8], was: u64, is: u64) {
@@ -121,13 +120,11 @@ fn print_changes(was: Line, is: Line, book: &[u8]) {
     text(b"\n");
 }
 
-// A case: the call's name, what is particular, the answer and the changes.
-pub fn tell(name: &[u8], what: &[u8], line: Line, out: Outcome, book: &[u8]) {
+// A case: its label, the answer and the changes.
+pub fn tell(label: &[u8], line: Line, out: Outcome, book: &[u8]) {
     let answer = out.answer;
     let after = out.line;
-    text(name);
-    text(b", ");
-    text(what);
+    text(label);
     text(b": ");
     print_answer(answer);
     print_changes(line, after, book);

@@ -1,90 +1,109 @@
-// The lines that the cases start from.
-ghost use Prim.Native.Nat.{_<_};
+// The lines that the cases start from, made of bytes; numbers are big-endian.
+use fields::Field8;
+use fields::Field16;
+use fields::Field32;
 use line::Lane;
 use line::Line;
 use line::Phase;
 use line::Purpose;
 use view::Block;
 use view::Place;
-use view::View;
 
-// A line with these numbers, the plain view and idle lanes.
-pub fn numbers(lanes: u8, capacity: u32, size: u32, pointer: u32) -> Line {
+fn u8_at(bytes: &[u8], at: usize) -> u8 {
+    let Field8::Value(x, _) = fields::read_u8(bytes, at) else {
+        return 0;
+    };
+    x
+}
+
+fn u16_at(bytes: &[u8], at: usize) -> u16 {
+    let Field16::Value(x, _) = fields::read_u16(bytes, at) else {
+        return 0;
+    };
+    x
+}
+
+fn u32_at(bytes: &[u8], at: usize) -> u32 {
+    let Field32::Value(x, _) = fields::read_u32(bytes, at) else {
+        return 0;
+    };
+    x
+}
+
+// lanes 1, capacity 4, size 4, pointer 4: idle lanes and the plain view.
+pub fn new_line(bytes: &[u8]) -> Line {
     let mut line = Line::unopened();
-    let place = Place(pointer);
-    line.lanes = lanes;
-    line.capacity = capacity;
-    line.size = size;
-    line.pointer = place;
+    let pointer = Place(u32_at(bytes, 9));
+    line.lanes = u8_at(bytes, 0);
+    line.capacity = u32_at(bytes, 1);
+    line.size = u32_at(bytes, 5);
+    line.pointer = pointer;
     line
 }
 
-// Three idle lanes, a capacity of 64 bytes, three records and the pointer past them.
-pub fn idle() -> Line {
-    numbers(3, 64, 24, 3)
+fn purpose_of(number: u8) -> Purpose {
+    match number {
+        0 => Purpose::SharedWrite,
+        1 => Purpose::SharedRead,
+        _ => Purpose::WholeBook,
+    }
 }
 
-pub fn with(line: Line, i: usize, phase: Phase, flag: u8) -> Line
-    requires { ⌜ i < 64 ⌝ }
-{
+// 0 idle, 1 waiting, 2 woken, 3 holding, 4 writing, 5 reading, 6 gathered.
+fn phase_of(number: u8, purpose: Purpose, place: Place, count: u16) -> Phase {
+    match number {
+        0 => Phase::Idle,
+        1 => Phase::Waiting(purpose),
+        2 => Phase::Woken(purpose, place),
+        3 => Phase::Holding(purpose, place),
+        4 => Phase::BusyWriting {
+            left: count,
+            next: place,
+        },
+        5 => Phase::BusyReading {
+            left: count,
+            next: place,
+        },
+        _ => Phase::Gathered(count),
+    }
+}
+
+// lane 1, flag 1, phase 1, purpose 1, place 4, count 2.
+pub fn set_lane(line: Line, bytes: &[u8]) -> Line {
+    let i = u8_at(bytes, 0) as usize;
+    let purpose = purpose_of(u8_at(bytes, 3));
+    let place = Place(u32_at(bytes, 4));
+    let phase = phase_of(u8_at(bytes, 2), purpose, place, u16_at(bytes, 8));
+    if 64 <= i {
+        return line;
+    }
     let mut next = line;
     next.lane[i] = Lane { phase };
-    next.flag[i] = flag;
+    next.flag[i] = u8_at(bytes, 1);
     next
 }
 
-// The idle line with another phase for lane 0.
-pub fn lane0(phase: Phase, flag: u8) -> Line {
-    with(idle(), 0, phase, flag)
+// displacement 4, extent 2, blocks 1.
+pub fn set_tile(line: Line, bytes: &[u8]) -> Line {
+    let mut view = line.view;
+    view.displacement = u32_at(bytes, 0);
+    view.extent = u16_at(bytes, 4);
+    view.used = u8_at(bytes, 6);
+    let mut next = line;
+    next.view = view;
+    next
 }
 
-pub fn waiting(line: Line, i: usize) -> Line
-    requires { ⌜ i < 64 ⌝ }
-{
-    with(line, i, Phase::Waiting(Purpose::SharedRead), 1)
-}
-
-pub fn woken(value: u32) -> Phase {
-    Phase::Woken(Purpose::SharedRead, Place(value))
-}
-
-pub fn to_write(value: u32) -> Phase {
-    Phase::Holding(Purpose::SharedWrite, Place(value))
-}
-
-pub fn to_read(value: u32) -> Phase {
-    Phase::Holding(Purpose::SharedRead, Place(value))
-}
-
-pub fn whole(value: u32) -> Phase {
-    Phase::Holding(Purpose::WholeBook, Place(value))
-}
-
-pub fn writing(next: u32, left: u16) -> Phase {
-    let place = Place(next);
-    Phase::BusyWriting { left, next: place }
-}
-
-pub fn reading(next: u32, left: u16) -> Phase {
-    let place = Place(next);
-    Phase::BusyReading { left, next: place }
-}
-
-// A line with another view: its numbers, and the first and the last of its blocks.
-pub fn with_view(
-    line: Line,
-    displacement: u32,
-    extent: u16,
-    used: u8,
-    first: Block,
-    last: Block,
-) -> Line {
-    let mut view = View::PLAIN;
-    view.displacement = displacement;
-    view.extent = extent;
-    view.used = used;
-    view.block[0] = first;
-    view.block[7] = last;
+// block 1, start 2, length 2.
+pub fn set_block(line: Line, bytes: &[u8]) -> Line {
+    let i = u8_at(bytes, 0) as usize;
+    let start = u16_at(bytes, 1);
+    let length = u16_at(bytes, 3);
+    if 8 <= i {
+        return line;
+    }
+    let mut view = line.view;
+    view.block[i] = Block { start, length };
     let mut next = line;
     next.view = view;
     next

@@ -1,24 +1,15 @@
-// Each entry of the crate `calls`, accepted and refused with each number that it can get; stdout has document 01's answers.
-mod accepted;
-mod bodies;
+// Runs the cases of stdin on the entries of the crate `calls`; stdout has document 01's answers.
 mod book;
 mod changes;
 mod entries;
+mod hex;
 mod lines;
-mod order;
-mod phases;
 mod same;
-mod seeks;
-mod unsound;
-mod views;
+mod script;
 mod words;
 
 fn main() {
-    phases::test_phases();
-    accepted::test_accepted();
-    views::test_views();
-    seeks::test_seeks();
-    bodies::test_bodies();
-    order::test_order();
-    unsound::test_unsound();
+    let mut text = io::large_buffer();
+    let n = io::read_full(0, &mut text);
+    script::run(&text[..n]);
 }

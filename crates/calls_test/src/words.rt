@@ -83,7 +83,11 @@ pub fn print_answer(answer: Answer) {
         Answer::None => text(b"none"),
         Answer::Freed { wakes } => print_freed(wakes),
         Answer::Gathered => text(b"gathered"),
-        Answer::Ordered { before, total } => print_two(b"ordered ", wide32(before.0), wide32(total)),
+        Answer::Ordered { before, total } => print_two(
+            b"ordered ",
+            wide32(before.0),
+            wide32(total),
+        ),
         Answer::View => text(b"view"),
         Answer::Seek { pointer } => print_place(b"seek ", pointer),
         Answer::Refused { number: reason } => number(b"refused ", wide8(reason)),
