@@ -1,9 +1,9 @@
 // The lent book: what it is filled with before a call, and which bytes a call changed.
 ghost use Prim.Native.Nat.{_≤_};
 ghost use lib.ListN.{length};
-use crate::words::digits;
-use crate::words::number;
-use crate::words::text;
+use crate::answers::digits;
+use crate::answers::number;
+use crate::answers::text;
 
 // The byte that the book has at an index before a call; the first 80 all differ, and none is 0.
 fn fresh(i: usize) -> u8 {

@@ -1,6 +1,6 @@
 // A case: a call on a line and a fresh book, then all that it did.
 use crate::book::fill;
-use crate::changes::tell;
+use crate::differences::tell;
 use event::Event;
 use event::Reading;
 use line::Line;
@@ -42,26 +42,17 @@ fn call(line: Line, book: &mut [u8], event: Event) -> Outcome {
     }
 }
 
-// By the entry, with a book of 80 bytes.
-pub fn by_entry(label: &[u8], line: Line, kind: u8, body: &[u8]) {
-    let mut book = [0u8; 80];
-    fill(&mut book);
-    let out = call(line, &mut book, event_of(kind, body));
-    tell(label, line, out, &book);
+// A call by its entry, or as a kind and body bytes.
+fn answer(as_bytes: bool, line: Line, book: &mut [u8], kind: u8, body: &[u8]) -> Outcome {
+    if as_bytes {
+        return calls::call_bytes(line, book, kind, body);
+    }
+    call(line, book, event_of(kind, body))
 }
 
-// By the entry, with a book of 65,600 bytes.
-pub fn by_entry_large(label: &[u8], line: Line, kind: u8, body: &[u8]) {
-    let mut book = [0u8; 65600];
-    fill(&mut book);
-    let out = call(line, &mut book, event_of(kind, body));
-    tell(label, line, out, &book);
-}
-
-// As a kind and body bytes.
-pub fn by_bytes(label: &[u8], line: Line, kind: u8, body: &[u8]) {
-    let mut book = [0u8; 80];
-    fill(&mut book);
-    let out = calls::call_bytes(line, &mut book, kind, body);
-    tell(label, line, out, &book);
+// A case with a lent book.
+pub fn case(label: &[u8], as_bytes: bool, line: Line, book: &mut [u8], kind: u8, body: &[u8]) {
+    fill(book);
+    let out = answer(as_bytes, line, book, kind, body);
+    tell(label, line, out, book);
 }

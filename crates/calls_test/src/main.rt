@@ -1,12 +1,12 @@
 // Runs the cases of stdin on the entries of the crate `calls`; stdout has document 01's answers.
+mod answers;
 mod book;
-mod changes;
+mod differences;
 mod entries;
 mod hex;
 mod lines;
 mod same;
 mod script;
-mod words;
 
 fn main() {
     let mut text = io::large_buffer();

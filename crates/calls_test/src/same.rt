@@ -44,9 +44,12 @@ fn parts_of(phase: Phase) -> Parts {
     }
 }
 
-fn same_phase(a: Phase, b: Phase) -> bool {
-    let x = parts_of(a);
-    let y = parts_of(b);
+// Whether two lanes are in the same phase, with the same numbers.
+pub fn same_lane(a: Lane, b: Lane) -> bool {
+    let was = a.phase;
+    let is = b.phase;
+    let x = parts_of(was);
+    let y = parts_of(is);
     if x.word != y.word {
         return false;
     }
@@ -57,12 +60,6 @@ fn same_phase(a: Phase, b: Phase) -> bool {
         return false;
     }
     x.count == y.count
-}
-
-pub fn same_lane(a: Lane, b: Lane) -> bool {
-    let x = a.phase;
-    let y = b.phase;
-    same_phase(x, y)
 }
 
 fn same_lanes(a: [Lane; MOST_LANES], b: [Lane; MOST_LANES]) -> bool {

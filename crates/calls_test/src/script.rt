@@ -1,7 +1,5 @@
 // The script: each line of text makes the line anew, changes it, or is a case that starts from it.
-use crate::entries::by_bytes;
-use crate::entries::by_entry;
-use crate::entries::by_entry_large;
+use crate::entries::case;
 use crate::hex::find;
 use crate::hex::read_bytes;
 use crate::lines::new_line;
@@ -12,11 +10,13 @@ use line::Line;
 
 // A case, by the word that it starts with: call, huge (with the large book) or raw (as bytes).
 fn run_case(word: u8, label: &[u8], line: Line, kind: u8, body: &[u8]) {
-    match word {
-        b'c' => by_entry(label, line, kind, body),
-        b'h' => by_entry_large(label, line, kind, body),
-        _ => by_bytes(label, line, kind, body),
+    if word == b'h' {
+        let mut large = [0u8; 65600];
+        case(label, false, line, &mut large, kind, body);
+        return;
     }
+    let mut book = [0u8; 80];
+    case(label, word == b'r', line, &mut book, kind, body);
 }
 
 // A line of text that is a case: word, kind and body (the first n bytes), a colon and its label.

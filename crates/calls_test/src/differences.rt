@@ -1,16 +1,16 @@
 // Prints a case: the call, its answer, and all that it changed in the line and in the book.
+use crate::answers::number;
+use crate::answers::print_answer;
+use crate::answers::print_phase;
+use crate::answers::text;
+use crate::answers::wide8;
+use crate::answers::wide16;
+use crate::answers::wide32;
 use crate::book::first_changed;
 use crate::book::print_bytes;
 use crate::same::same_lane;
 use crate::same::same_line;
 use crate::same::same_view;
-use crate::words::number;
-use crate::words::print_answer;
-use crate::words::print_phase;
-use crate::words::text;
-use crate::words::wide8;
-use crate::words::wide16;
-use crate::words::wide32;
 use line::Lane;
 use line::Line;
 use line::MOST_LANES;

@@ -40,7 +40,8 @@ fn print_place(lead: &[u8], place: Place) {
     number(lead, wide32(place.0));
 }
 
-fn print_wakes(wakes: Wakes) {
+fn print_wakes(lead: &[u8], wakes: Wakes) {
+    text(lead);
     match wakes {
         Wakes::Lane(lane) => number(b" wakes ", wide8(lane)),
         Wakes::None => text(b" wakes none"),
@@ -53,18 +54,14 @@ fn print_two(lead: &[u8], first: u64, second: u64) {
 }
 
 fn print_region(start: Place, count: u16, wakes: Wakes) {
-    print_two(b"region ", wide32(start.0), wide16(count));
-    print_wakes(wakes);
+    number(b"region ", wide32(start.0));
+    number(b" ", wide16(count));
+    print_wakes(b"", wakes);
 }
 
 fn print_record(content: u64) {
     text(b"record ");
     io::print_hex(1, content, 16);
-}
-
-fn print_freed(wakes: Wakes) {
-    text(b"freed");
-    print_wakes(wakes);
 }
 
 // The answer in document 01's words.
@@ -81,7 +78,7 @@ pub fn print_answer(answer: Answer) {
         Answer::Wrote { position } => number(b"wrote ", position.0),
         Answer::Record { content } => print_record(content),
         Answer::None => text(b"none"),
-        Answer::Freed { wakes } => print_freed(wakes),
+        Answer::Freed { wakes } => print_wakes(b"freed", wakes),
         Answer::Gathered => text(b"gathered"),
         Answer::Ordered { before, total } => print_two(
             b"ordered ",

@@ -1,8 +1,8 @@
--- `calls_test::changes::print_blocks` is safe and ends. The measure is the number of blocks that are left.
+-- `calls_test::differences::print_blocks` is safe and ends. The measure is the number of blocks that are left.
 use Prim.Native.Nat.{_-_, _≤_}
 use borrow.Author.Needs.{needs}
-use Rattle.calls_test.proofs.changes.print_blocks.Statement.{statement}
-use Rattle.calls_test.proofs.changes.print_blocks.Tie as tie
+use Rattle.calls_test.proofs.differences.print_blocks.Statement.{statement}
+use Rattle.calls_test.proofs.differences.print_blocks.Tie as tie
 
 abbrev Inv-loop : tie.InvT-loop
 Inv-loop block i₀ i = i ≤ 8

@@ -1,9 +1,9 @@
--- `calls_test::words::digits` is safe and ends. The measure is the number of bytes that are left.
+-- `calls_test::answers::digits` is safe and ends. The measure is the number of bytes that are left.
 use Prim.Native.Nat.{_-_, _≤_}
 use lib.ListN.{length}
 use borrow.Author.Needs.{needs}
-use Rattle.calls_test.proofs.words.digits.Statement.{statement}
-use Rattle.calls_test.proofs.words.digits.Tie as tie
+use Rattle.calls_test.proofs.answers.digits.Statement.{statement}
+use Rattle.calls_test.proofs.answers.digits.Tie as tie
 
 abbrev Inv-loop : tie.InvT-loop
 Inv-loop bytes i₀ i = i ≤ length bytes
