@@ -1,4 +1,4 @@
--- `calls_test::hex::read_bytes` is safe and ends. The measure is the number of bytes that may follow that are left.
+-- `calls_test::hex::read_bytes` is safe and ends. The measure is the number of bytes that may still follow.
 use Prim.Native.Nat.{_-_, _≤_}
 use borrow.Author.Needs.{needs}
 use Rattle.calls_test.proofs.hex.read_bytes.Statement.{statement}
