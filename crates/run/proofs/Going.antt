@@ -10,7 +10,7 @@ use lib.Dec.{leb}
 use mathlib.Core.List.{append-assoc}
 use lib.ListN.{length}
 use lib.Seq.{sets}
-use borrow.Author.Tests.{leb-false}
+use borrow.Author.Tests.{le-leb, leb-false}
 use types.Run.{OneOf, miss}
 use denote.Enum.Declared.{tagOf}
 use Rattle.lists.specs.Lists.{any}
@@ -141,9 +141,9 @@ module _ (sheet : List ℕ) (x₀ : State) (out₀ : List ℕ) (line : Line) (bo
 
   -- the run that ends here has left this, and its text
   ended : (r : Ran) (out′ : List ℕ) (end : ℕ) → runOn (length sheet - number) x sheet at ≡ r → r .after ≡ x → Stored (textOf number r) out len out′ end
-      → sound (x₀ .line) (length (x₀ .book)) ≡ true → RunSound x₀ sheet out₀ (record { line = line; printed = Printed.Length end }) book out′
+      → sound (x₀ .line) (length (x₀ .book)) ≡ true → end ≤ length out₀ → RunSound x₀ sheet out₀ (record { line = line; printed = Printed.Length end }) book out′
   unfolding run
-  ended r out′ end ran left stored ok =
+  ended r out′ end ran left stored ok within =
       let whole = and-then (G .stored) stored in
       let text : G .text ++ textOf number r ≡ textOf 0 (runOn (length sheet) x₀ sheet 0) = rw ran at (G .rest) in
       let state : x ≡ runOn (length sheet) x₀ sheet 0 .after = sym left ∙ sym (ap (λ (t : Ran). t .after) ran) ∙ G .after in
@@ -152,15 +152,16 @@ module _ (sheet : List ℕ) (x₀ : State) (out₀ : List ℕ) (line : Line) (bo
         line = rw ok (ap (λ (y : State). y .line) state);
         book = rw ok (ap (λ (y : State). y .book) state);
         text = rw (ok, ← text) (whole .bytes);
+        fits = le-leb end (length out₀) within;
       }
 
   -- by what was read
   pub ends : (reading : Reading) (out′ : List ℕ) (end : ℕ) → OneOf (1 ∷ 2 ∷ []) (tagOf the-type reading) → readAt sheet at ≡ reading → Stored (lastLines number reading line) out len out′ end
-      → sound (x₀ .line) (length (x₀ .book)) ≡ true → RunSound x₀ sheet out₀ (record { line = line; printed = Printed.Length end }) book out′
+      → sound (x₀ .line) (length (x₀ .book)) ≡ true → end ≤ length out₀ → RunSound x₀ sheet out₀ (record { line = line; printed = Printed.Length end }) book out′
   unfolding answerLines
-  ends (Reading.Event e next) out′ end t q stored ok = absurd (miss (1 ∷ 2 ∷ []) 0 tt t)
-  ends Reading.End out′ end t q stored ok = ended (done x) out′ end (run-end x sheet at (length sheet - number) q) refl stored ok
-  ends (Reading.Refused k) out′ end t q stored ok =
+  ends (Reading.Event e next) out′ end t q stored ok within = absurd (miss (1 ∷ 2 ∷ []) 0 tt t)
+  ends Reading.End out′ end t q stored ok within = ended (done x) out′ end (run-end x sheet at (length sheet - number) q) refl stored ok within
+  ends (Reading.Refused k) out′ end t q stored ok within =
       let some : length sheet - number ≡ suc (length sheet - number - 1) = omega (arith, refused-inside k q, G .numbered) in
       ended (answered (Answer.Refused k) (done x)) out′ end (rw some (run-refused x sheet at (length sheet - number - 1) k q)) refl
-      (subst (λ (t : List ℕ). Stored t out len out′ end) (line-first (answerLine number (Answer.Refused k)) (endLine x)) stored) ok
+      (subst (λ (t : List ℕ). Stored t out len out′ end) (line-first (answerLine number (Answer.Refused k)) (endLine x)) stored) ok within

@@ -1,6 +1,6 @@
 -- What the run of a sheet answers and leaves: the line, the book, and the printed lines in a lent buffer.
 use Prim.Native.Nat.{ℕ, _+_, _*_}
-use mathlib.Core.Bool.{Bool, cond}
+use mathlib.Core.Bool.{Bool, true, cond}
 use mathlib.Core.List.{List, _++_}
 use mathlib.Core.Path.{_≡_}
 use lib.Dec.{leb}
@@ -32,11 +32,17 @@ textIn x sheet out = cond (hasRoom sheet out) (sets out 0 (printed (run x sheet)
 abbrev pub printedBy : State → List ℕ → List ℕ → Printed
 printedBy x sheet out = cond (hasRoom sheet out) (Printed.Length (length (printed (run x sheet)))) Printed.TooShort
 
+-- the text lies within a buffer of this length
+abbrev pub textFits : Printed → ℕ → Bool
+textFits (Printed.Length n) room = leb n room
+textFits Printed.TooShort room = true
+
 pub record RunMeets (x : State) (sheet out : List ℕ) (r : RunOutcome) (book-left out-left : List ℕ) : Type 0 where
   pub answer : r .printed ≡ printedBy x sheet out
   pub line : r .line ≡ leftBy x sheet out .line
   pub book : book-left ≡ leftBy x sheet out .book
   pub text : out-left ≡ textIn x sheet out
+  pub fits : textFits (r .printed) (length out) ≡ true
 
 -- the same where there is room
 pub record RunSound (x : State) (sheet out : List ℕ) (r : RunOutcome) (book-left out-left : List ℕ) : Type 0 where
@@ -44,6 +50,7 @@ pub record RunSound (x : State) (sheet out : List ℕ) (r : RunOutcome) (book-le
   pub line : r .line ≡ run x sheet .after .line
   pub book : book-left ≡ run x sheet .after .book
   pub text : out-left ≡ sets out 0 (printed (run x sheet))
+  pub fits : textFits (r .printed) (length out) ≡ true
 
 -- the last lines: of bytes that are no event their refusal, numbered k, and then `end`
 abbrev pub lastLines : ℕ → Reading → Line → List ℕ

@@ -46,7 +46,7 @@ fn has_room(sheet: usize, out: usize) -> bool
 // The last lines: the refusal of bytes that are no event, where there is one, and `end` with the size and the pointer.
 fn put_last(line: Line, reading: Reading, out: &mut [u8], at: usize, number: u64) -> usize
     requires { ⌜ at + 112 ≤ length (now out) ⌝ }
-    ensures { λ r. ⌜ Stored (lastLines number reading line) (now (out .entry)) at (now (out .exit)) r ⌝ }
+    ensures { λ r. ⌜ Stored (lastLines number reading line) (now (out .entry)) at (now (out .exit)) r × (r ≤ at + 112) ⌝ }
 {
     let pointer = line.pointer;
     let Reading::Refused(refusal) = reading else {

@@ -1,5 +1,5 @@
 -- `put_last` meets its contract.
-use mathlib.Core.Path.{_≡_, sym}
+use native.Mathlib.Omega.{arith}
 use Rattle.digits.proofs.Stores.{and-then}
 use Rattle.run.proofs.Last.{no-refusal}
 use borrow.Author.Needs.{needs}
@@ -20,7 +20,7 @@ returns c =
     let p = c .before .before in
     let m = p .before .before in
     let a = m .before .before .before .args in
-    rw (no-refusal (a .number) (a .reading) (a .line) (m .match .keys2)) (p .put-end .ensures .0)
+    rw (no-refusal (a .number) (a .reading) (a .line) (m .match .keys2)) (p .put-end .ensures .0, omega (arith, p .put-end .ensures .1))
 
 put-answer-requires : tie.Need-put-answer-requires
 put-answer-requires c κs = search needs
@@ -35,7 +35,7 @@ returns-2 : tie.Need-returns-2
 returns-2 c =
     let e = c .before .before in
     let p = e .before .before .before .before in
-    rw (p .before .before .before .reading .given .1) (and-then (p .put-answer .ensures .0) (e .put-end2 .ensures .0))
+    rw (p .before .before .before .reading .given .1) (and-then (p .put-answer .ensures .0) (e .put-end2 .ensures .0), omega (arith, p .put-answer .ensures .1, e .put-end2 .ensures .1))
 
 pub put-last-spec : {M : Type 1} → statement M
 put-last-spec =

@@ -47,7 +47,7 @@ returns-2 c =
     let e = t .before .before in
     let a = start e .args in
     with-room (stateOf (a .line) (a .book .now)) (a .sheet .now) (a .out .now) _ _ _ (roomy e)
-    (unsound-run (stateOf (a .line) (a .book .now)) (a .sheet .now) (a .out .now) _ _ (sym (t .before .is-sound .ensures) ∙ not-true _ (t .if2 .taken)) (p .put-last .ensures))
+    (unsound-run (stateOf (a .line) (a .book .now)) (a .sheet .now) (a .out .now) _ _ (sym (t .before .is-sound .ensures) ∙ not-true _ (t .if2 .taken)) (p .put-last .ensures .0) (omega (arith, p .put-last .ensures .1, enough e)))
 
 run-sound-requires : tie.Need-run-sound-requires
 run-sound-requires c κs =

@@ -140,7 +140,8 @@ returns c =
     let m = p .before .before in
     let ev = m .before in
     let l = ev .before in
-    ends _ _ _ _ _ _ _ _ _ _ (l .loop .inv) (ev .event-at .result .reading) _ _ (m .match .keys2) (reading-is ev) (p .put-last .ensures) (start l .pre .0)
+    ends _ _ _ _ _ _ _ _ _ _ (l .loop .inv) (ev .event-at .result .reading) _ _ (m .match .keys2) (reading-is ev) (p .put-last .ensures .0) (start l .pre .0)
+    (omega (arith, p .put-last .ensures .1, room l, l .loop .inv .out-length))
 
 caller-of-requires : tie.Need-caller-of-requires Inv-loop μ-loop
 caller-of-requires c κs = search needs
