@@ -1,0 +1,75 @@
+-- `gudlemi_run` meets its contract: it is the run from an unopened line.
+use mathlib.Core.Path.{_≡_, sym, ap, _∙_}
+use Rattle.line.specs.declared.Line.{Line}
+use Rattle.steps.specs.Meets.{stateOf}
+use Rattle.run.specs.Runs.{leftBy, printedBy, textIn}
+use Rattle.embed.specs.Embedded.{lengthOf}
+use borrow.Author.Needs.{needs}
+use Rattle.embed.proofs.gudlemi_run.Statement.{statement}
+use Rattle.embed.proofs.gudlemi_run.Tie as tie
+
+unopened-requires : tie.Need-unopened-requires
+unopened-requires c κs = search needs
+
+run-requires : tie.Need-run-requires
+run-requires c κs = search needs
+
+enum-known-printed : tie.Need-enum-known-printed
+enum-known-printed c = search needs
+
+enum-told : tie.Need-enum-told
+enum-told c = search needs
+
+same-length : tie.Need-same-length
+same-length c = search needs
+
+same-length-2 : tie.Need-same-length-2
+same-length-2 c = search needs
+
+returns : tie.Need-returns
+returns c =
+    let told = c .before in
+    let r = told .before .before .before .before .before .before in
+    let u = r .before .before .before in
+    let s = u .before .before .before .before in
+    let meets = r .run .ensures in (
+      ap lengthOf (sym (told .printed .given .1) ∙ meets .answer) ∙ ap (λ (l : Line). lengthOf (printedBy (stateOf l (s .args .book .now)) (s .args .sheet .now) (s .args .text .now))) (u .unopened .ensures),
+      (
+        meets .book ∙ ap (λ (l : Line). leftBy (stateOf l (s .args .book .now)) (s .args .sheet .now) (s .args .text .now) .book) (u .unopened .ensures),
+        meets .text ∙ ap (λ (l : Line). textIn (stateOf l (s .args .book .now)) (s .args .sheet .now) (s .args .text .now)) (u .unopened .ensures),
+      ),
+    )
+
+same-length-3 : tie.Need-same-length-3
+same-length-3 c = search needs
+
+same-length-4 : tie.Need-same-length-4
+same-length-4 c = search needs
+
+returns-2 : tie.Need-returns-2
+returns-2 c =
+    let r = c .before .before .before .before .before .before in
+    let u = r .before .before .before in
+    let s = u .before .before .before .before in
+    let meets = r .run .ensures in (
+      ap lengthOf (sym (c .enum-told .given .1) ∙ meets .answer) ∙ ap (λ (l : Line). lengthOf (printedBy (stateOf l (s .args .book .now)) (s .args .sheet .now) (s .args .text .now))) (u .unopened .ensures),
+      (
+        meets .book ∙ ap (λ (l : Line). leftBy (stateOf l (s .args .book .now)) (s .args .sheet .now) (s .args .text .now) .book) (u .unopened .ensures),
+        meets .text ∙ ap (λ (l : Line). textIn (stateOf l (s .args .book .now)) (s .args .sheet .now) (s .args .text .now)) (u .unopened .ensures),
+      ),
+    )
+
+pub gudlemi-run-spec : {M : Type 1} → statement M
+gudlemi-run-spec =
+    tie.close
+    (tie.spec
+    unopened-requires
+    run-requires
+    enum-known-printed
+    enum-told
+    same-length
+    same-length-2
+    returns
+    same-length-3
+    same-length-4
+    returns-2)

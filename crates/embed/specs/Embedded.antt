@@ -1,0 +1,44 @@
+-- The answers of the linked functions as plain numbers.
+use Prim.Native.Nat.{ℕ, _-_}
+use mathlib.Core.Bool.{cond}
+use mathlib.Core.List.{List}
+use lib.Dec.{leb, ltb}
+use Rattle.line.specs.Line.{unopened}
+use Rattle.event.specs.ReadWrite.{readAt}
+use Rattle.event.specs.declared.Reading.{Reading}
+use Rattle.steps.specs.Meets.{stateOf}
+use Rattle.steps.specs.State.{State}
+use Rattle.print.specs.declared.Printed.{Printed}
+use Rattle.run.specs.Runs.{mostText}
+
+-- the greatest number of 64 bits, which is no length
+abbrev pub noLength : ℕ
+noLength = 18446744073709551615
+
+-- an unopened line over a lent book
+abbrev pub fresh : List ℕ → State
+fresh book = stateOf unopened book
+
+abbrev pub lengthOf : Printed → ℕ
+lengthOf (Printed.Length n) = n
+lengthOf Printed.TooShort = noLength
+
+abbrev pub textBound : ℕ → ℕ
+textBound n = cond (ltb 658812288346769696 n) noLength (mostText n)
+
+-- by what is read at an index
+abbrev pub lengthRead : ℕ → Reading → ℕ
+lengthRead at (Reading.Event e next) = next .at - at
+lengthRead at Reading.End = 0
+lengthRead at (Reading.Refused k) = 0
+
+abbrev pub eventLength : List ℕ → ℕ → ℕ
+eventLength sheet at = lengthRead at (readAt sheet at)
+
+abbrev pub refusalRead : Reading → ℕ
+refusalRead (Reading.Event e next) = 0
+refusalRead Reading.End = 0
+refusalRead (Reading.Refused k) = k
+
+abbrev pub eventRefusal : List ℕ → ℕ → ℕ
+eventRefusal sheet at = refusalRead (readAt sheet at)

@@ -1,0 +1,2 @@
+-- What the linked functions answer.
+pub mod Embedded

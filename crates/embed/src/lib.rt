@@ -1,0 +1,63 @@
+// The functions that C and Rust programs link, on numbers and byte slices: a slice is a pointer and a length.
+ghost use mathlib.Core.Path.{_≡_};
+ghost use Rattle.embed.specs.Embedded.{eventLength, eventRefusal, fresh, lengthOf, textBound};
+ghost use Rattle.run.specs.Runs.{leftBy, printedBy, textIn};
+use event::Cursor;
+use event::Reading;
+use line::Line;
+use print::Printed;
+use run::run;
+
+// Runs a whole sheet from an unopened line over a lent book; the printed lines stand at the start of `text`. The answer is their length,
+// or the greatest number where `text` may be too short, with nothing altered.
+#[no_mangle]
+pub extern "C" fn gudlemi_run(sheet: &[u8], book: &mut [u8], text: &mut [u8]) -> usize
+    ensures is { λ r. ⌜ r ≡ lengthOf (printedBy (fresh (now (book .entry))) (now (sheet .entry)) (now (text .entry))) ⌝ }
+    ensures book { λ r. ⌜ now (book .exit) ≡ leftBy (fresh (now (book .entry))) (now (sheet .entry)) (now (text .entry)) .book ⌝ }
+    ensures text { λ r. ⌜ now (text .exit) ≡ textIn (fresh (now (book .entry))) (now (sheet .entry)) (now (text .entry)) ⌝ }
+{
+    let line = Line::unopened();
+    let ran = run(line, book, sheet, text);
+    let printed = ran.printed;
+    match printed {
+        Printed::Length(length) => length,
+        Printed::TooShort => 18446744073709551615,
+    }
+}
+
+// A length of `text` that is enough for any sheet of this length, or the greatest number where there is none.
+#[no_mangle]
+pub extern "C" fn gudlemi_text_bound(sheet: usize) -> usize
+    ensures { λ r. ⌜ r ≡ textBound sheet ⌝ }
+{
+    if 658812288346769696 < sheet {
+        return 18446744073709551615;
+    }
+    sheet * 28 + 112
+}
+
+// The length in bytes of the event at an index of a sheet; 0 at the sheet's end, past it, and where the bytes are no event.
+#[no_mangle]
+pub extern "C" fn gudlemi_event_length(sheet: &[u8], at: usize) -> usize
+    ensures { λ r. ⌜ r ≡ eventLength (now (sheet .entry)) at ⌝ }
+{
+    let reading = decode::read_event(sheet, Cursor { at });
+    match reading {
+        Reading::Event { event: _, next } => next.at - at,
+        Reading::End => 0,
+        Reading::Refused(_) => 0,
+    }
+}
+
+// Why the bytes at an index of a sheet are no event: 2 or 3; 0 where they are one, and at the sheet's end and past it.
+#[no_mangle]
+pub extern "C" fn gudlemi_event_refusal(sheet: &[u8], at: usize) -> u8
+    ensures { λ r. ⌜ r ≡ eventRefusal (now (sheet .entry)) at ⌝ }
+{
+    let reading = decode::read_event(sheet, Cursor { at });
+    match reading {
+        Reading::Event { event: _, next: _ } => 0,
+        Reading::End => 0,
+        Reading::Refused(number) => number,
+    }
+}
