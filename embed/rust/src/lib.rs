@@ -1,0 +1,97 @@
+//! Safe functions over libembed.a, the proved library of the shared book: run a sheet, and find its events.
+//!
+//! What a sheet and a book are, and each printed line, is in document 01; `embed/gudlemi.h` has the same functions for C.
+//!
+//! To link: make the library with `rt staticlib embed`, then build. Where libembed.a is not in this repository's
+//! target/staticlib, name its folder in the environment variable GUDLEMI_LIB, best as an absolute path. A program that
+//! depends on this crate needs no link settings of its own.
+//!
+//! The functions keep no state, so threads may call them at once.
+
+#[cfg(test)]
+mod tests;
+
+/// The functions of the library: a slice is a pointer, which is never null, and a length.
+mod linked {
+    extern "C" {
+        pub fn gudlemi_run(
+            sheet: *const u8,
+            sheet_length: usize,
+            book: *mut u8,
+            book_length: usize,
+            text: *mut u8,
+            text_length: usize,
+        ) -> usize;
+        pub fn gudlemi_text_bound(sheet_length: usize) -> usize;
+        pub fn gudlemi_event_length(sheet: *const u8, sheet_length: usize, at: usize) -> usize;
+        pub fn gudlemi_event_refusal(sheet: *const u8, sheet_length: usize, at: usize) -> u8;
+    }
+}
+
+/// The library's answer where there is no length to give.
+const NO_LENGTH: usize = usize::MAX;
+
+/// What stands at a byte index of a sheet.
+#[derive(Clone, Copy, Debug, PartialEq, Eq)]
+pub enum EventAt {
+    /// An event of this many bytes, its kind byte counted; the next one is that much further on.
+    Event { length: usize },
+    /// The sheet's end, or an index past it.
+    End,
+    /// Bytes that are no event: 2 where the kind is not 01 to 0C, 3 where the body is cut short.
+    Refused(u8),
+}
+
+/// Runs a whole sheet from an unopened line over a lent book. The printed lines stand at the start of `text`, and the
+/// answer is their length.
+///
+/// None where `text` is shorter than `text_bound` of the sheet's length: then nothing was run, and neither `book` nor
+/// `text` is altered. An opening with a capacity above the book's length is refused with 7, on an empty book each one.
+pub fn run(sheet: &[u8], book: &mut [u8], text: &mut [u8]) -> Option<usize> {
+    // SAFETY: the slices give pointers that are not null with their lengths, and by Rust's rules for references they
+    // share no byte and nobody else touches them during the call. The library keeps none of the pointers.
+    let length = unsafe {
+        linked::gudlemi_run(
+            sheet.as_ptr(),
+            sheet.len(),
+            book.as_mut_ptr(),
+            book.len(),
+            text.as_mut_ptr(),
+            text.len(),
+        )
+    };
+    length_given(length)
+}
+
+/// `run` with a text buffer of its own: the printed lines, or None where no buffer is long enough.
+pub fn run_to_string(sheet: &[u8], book: &mut [u8]) -> Option<String> {
+    let mut text = vec![0; text_bound(sheet.len())?];
+    let length = run(sheet, book, &mut text)?;
+    text.truncate(length);
+    text.shrink_to_fit();
+    Some(String::from_utf8(text).expect("the printed lines are ASCII"))
+}
+
+/// The shortest text buffer that `run` takes for a sheet of this length; None where no number of 64 bits is enough.
+pub fn text_bound(sheet_length: usize) -> Option<usize> {
+    // SAFETY: a number in, a number out.
+    length_given(unsafe { linked::gudlemi_text_bound(sheet_length) })
+}
+
+/// What stands at byte index `at` of a sheet, which may be any number.
+pub fn event_at(sheet: &[u8], at: usize) -> EventAt {
+    // SAFETY: the slice gives a pointer that is not null with its length; the library only reads there.
+    let length = unsafe { linked::gudlemi_event_length(sheet.as_ptr(), sheet.len(), at) };
+    if length > 0 {
+        return EventAt::Event { length };
+    }
+    // SAFETY: as above.
+    match unsafe { linked::gudlemi_event_refusal(sheet.as_ptr(), sheet.len(), at) } {
+        0 => EventAt::End,
+        number => EventAt::Refused(number),
+    }
+}
+
+fn length_given(length: usize) -> Option<usize> {
+    (length != NO_LENGTH).then_some(length)
+}
