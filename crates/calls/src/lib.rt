@@ -6,7 +6,7 @@ ghost use lib.ListN.{length};
 ghost use Rattle.view.specs.View.{place};
 ghost use Rattle.line.specs.Sound.{sound};
 ghost use Rattle.event.specs.declared.Event.{Event};
-ghost use Rattle.lane_calls.specs.Decided.{callerOf};
+ghost use Rattle.lane_calls.specs.Decided.{scopeOf};
 ghost use Rattle.steps.specs.Meets.{Meets, stateOf};
 ghost use Rattle.steps.specs.Step.{callBytes, callEvent};
 ghost use Rattle.calls.specs.Refused.{refusedBytes};
@@ -15,9 +15,9 @@ use changes::see;
 use event::Blocks;
 use event::Event;
 use event::Reading;
-use lane_calls::Caller;
-use lane_calls::caller_of;
+use lane_calls::Scope;
 use lane_calls::decide;
+use lane_calls::scope_of;
 use line::Line;
 use line_calls::call_line;
 use refusals::refuse;
@@ -27,7 +27,7 @@ use view::Place;
 
 // The call of a lane on a sound line: what it sees, what it changes, and the change applied.
 fn call_lane(line: Line, book: &mut [u8], lane: u8, event: Event) -> Outcome
-    requires { ⌜ (sound line (length (now book)) ≡ true) × (callerOf event ≡ Caller.Lane lane) ⌝ }
+    requires { ⌜ (sound line (length (now book)) ≡ true) × (scopeOf event ≡ Scope.Lane lane) ⌝ }
     ensures { λ r. ⌜ Meets (callEvent (stateOf line (now (book .entry))) event) r (now (book .exit)) ⌝ }
 {
     let seen = see(line, lane);
@@ -44,10 +44,10 @@ pub fn call_event(line: Line, book: &mut [u8], event: Event) -> Outcome
     if !is_sound(line, book.len()) {
         return refuse(line, 1);
     }
-    let caller = caller_of(event);
-    match caller {
-        Caller::Lane(lane) => call_lane(line, book, lane, event),
-        Caller::Line => call_line(line, book, event),
+    let scope = scope_of(event);
+    match scope {
+        Scope::Lane(lane) => call_lane(line, book, lane, event),
+        Scope::Line => call_line(line, book, event),
     }
 }
 

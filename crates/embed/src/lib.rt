@@ -1,7 +1,9 @@
 // The functions that C and Rust programs link, on numbers and byte slices: a slice is a pointer and a length.
+ghost use mathlib.Core.Bool.{true};
 ghost use mathlib.Core.Path.{_≡_};
+ghost use lib.ListN.{length};
 ghost use Rattle.embed.specs.Embedded.{eventLength, eventRefusal, fresh, lengthOf, textBound};
-ghost use Rattle.run.specs.Runs.{leftBy, printedBy, textIn};
+ghost use Rattle.run.specs.Runs.{leftBy, printedBy, textFits, textIn};
 use event::Cursor;
 use event::Reading;
 use line::Line;
@@ -14,6 +16,7 @@ use run::run;
 pub extern "C" fn gudlemi_run(sheet: &[u8], book: &mut [u8], text: &mut [u8]) -> usize
     ensures is { λ r. ⌜ r ≡ lengthOf (printedBy (fresh (now (book .entry))) (now (sheet .entry)) (now (text .entry))) ⌝ }
     ensures book { λ r. ⌜ now (book .exit) ≡ leftBy (fresh (now (book .entry))) (now (sheet .entry)) (now (text .entry)) .book ⌝ }
+    ensures fits { λ r. ⌜ textFits (printedBy (fresh (now (book .entry))) (now (sheet .entry)) (now (text .entry))) (length (now (text .entry))) ≡ true ⌝ }
     ensures text { λ r. ⌜ now (text .exit) ≡ textIn (fresh (now (book .entry))) (now (sheet .entry)) (now (text .entry)) ⌝ }
 {
     let line = Line::unopened();
@@ -30,6 +33,7 @@ pub extern "C" fn gudlemi_run(sheet: &[u8], book: &mut [u8], text: &mut [u8]) ->
 pub extern "C" fn gudlemi_text_bound(sheet: usize) -> usize
     ensures { λ r. ⌜ r ≡ textBound sheet ⌝ }
 {
+    // the greatest length for which the product and the sum do not wrap
     if 658812288346769696 < sheet {
         return 18446744073709551615;
     }

@@ -1,3 +1,3 @@
--- The laws of the calls that a lane makes by itself.
+-- The laws of the calls 02 to 09.
 pub mod Others
 pub mod Steps

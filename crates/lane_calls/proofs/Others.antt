@@ -1,4 +1,4 @@
--- The events that no lane makes by itself, by the last arm of a match.
+-- The events of the other kinds, by the last arm of a match.
 use Prim.Native.Nat.{ℕ}
 use mathlib.Core.Path.{_≡_, refl}
 use mathlib.Core.List.{List, [], _∷_}
@@ -10,14 +10,14 @@ use Rattle.event.specs.declared.Event.{Event}
 use Rattle.event.proofs.Event.{the-type}
 use Rattle.changes.specs.Change.{refused}
 use Rattle.changes.specs.declared.Seen.{Seen}
-use Rattle.lane_calls.specs.declared.Caller.{Caller}
-use Rattle.lane_calls.specs.Decided.{bookDecided, callerOf, decided}
+use Rattle.lane_calls.specs.declared.Scope.{Scope}
+use Rattle.lane_calls.specs.Decided.{bookDecided, scopeOf, decided}
 
 -- the tags of 01, 0A, 0B, 0C and an unlisted kind
 abbrev others : List ℕ
 others = 0 ∷ 9 ∷ 10 ∷ 11 ∷ 12 ∷ []
 
-pub no-lane : (e : Event) → OneOf others (tagOf the-type e) → callerOf e ≡ Caller.Line
+pub no-lane : (e : Event) → OneOf others (tagOf the-type e) → scopeOf e ≡ Scope.Line
 no-lane (Event.Open lanes capacity) h = refl
 no-lane (Event.Want i purpose) h = absurd (miss others 1 tt h)
 no-lane (Event.Receive i) h = absurd (miss others 2 tt h)
@@ -32,10 +32,10 @@ no-lane (Event.View displacement extent used blocks) h = refl
 no-lane (Event.Seek whence offset) h = refl
 no-lane Event.Unlisted h = refl
 
-a-lane : {X : Type 0} {i : ℕ} → Caller.Lane i ≡ Caller.Line → X
+a-lane : {X : Type 0} {i : ℕ} → Scope.Lane i ≡ Scope.Line → X
 a-lane h = let z : _≡_ {A = ℕ} 0 1 = cc in absurd (omega arith)
 
-pub none-decided : (s : Seen) (v : View) (flags book : List ℕ) (e : Event) → callerOf e ≡ Caller.Line → (refused s 2 ≡ decided s v flags book e) × (book ≡ bookDecided s v book e)
+pub none-decided : (s : Seen) (v : View) (flags book : List ℕ) (e : Event) → scopeOf e ≡ Scope.Line → (refused s 2 ≡ decided s v flags book e) × (book ≡ bookDecided s v book e)
 unfolding decided bookDecided
 none-decided s v flags book (Event.Open lanes capacity) h = (refl, refl)
 none-decided s v flags book (Event.Want i purpose) h = a-lane h

@@ -20,21 +20,21 @@ use Rattle.turns.proofs.Steps.{free-step, receive-step, take-step, want-step}
 use Rattle.turns.proofs.Regular.{free-regular, receive-regular, take-regular, want-regular}
 use Rattle.records.proofs.Steps.{look-step, put-step, read-step, write-step}
 use Rattle.records.proofs.Regular.{look-regular, put-regular, read-regular, write-regular}
-use Rattle.lane_calls.specs.declared.Caller.{Caller}
-use Rattle.lane_calls.specs.Decided.{bookDecided, callerOf, decided}
+use Rattle.lane_calls.specs.declared.Scope.{Scope}
+use Rattle.lane_calls.specs.Decided.{bookDecided, scopeOf, decided}
 
-same-lane : {j i : ℕ} → Caller.Lane j ≡ Caller.Lane i → j ≡ i
+same-lane : {j i : ℕ} → Scope.Lane j ≡ Scope.Lane i → j ≡ i
 same-lane h = cc
 
-the-line : {X : Type 0} {i : ℕ} → Caller.Line ≡ Caller.Lane i → X
+the-line : {X : Type 0} {i : ℕ} → Scope.Line ≡ Scope.Lane i → X
 the-line h = let z : _≡_ {A = ℕ} 0 1 = cc in absurd (omega arith)
 
 module _ (l : Line) (book : List ℕ) (few : l .lanes ≤ mostLanes) (ok : sound l (length book) ≡ true) where
-  -- the step of an event that is made by lane i
+  -- the step of an event by lane i
   pub record Decides (e : Event) (i : ℕ) : Type 0 where
     pub is : callEvent (stateOf l book) e ≡ changed l (entryOf i) (decided (seenOf l (entryOf i)) (l .view) (l .flag) book e) (bookDecided (seenOf l (entryOf i)) (l .view) book e)
 
-  pub decided-step : (e : Event) (i : ℕ) → callerOf e ≡ Caller.Lane i → Decides e i
+  pub decided-step : (e : Event) (i : ℕ) → scopeOf e ≡ Scope.Lane i → Decides e i
   unfolding decided bookDecided
   decided-step (Event.Open lanes capacity) i h = the-line h
   decided-step (Event.Want j purpose) i h = subst (λ (m : ℕ). Decides (Event.Want j purpose) m) (same-lane h) (record { is = want-step l book few ok j purpose })

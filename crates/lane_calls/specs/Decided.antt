@@ -8,24 +8,24 @@ use Rattle.changes.specs.declared.Change.{Change}
 use Rattle.changes.specs.declared.Seen.{Seen}
 use Rattle.turns.specs.Turns.{freeChange, receiveChange, takeChange, wantChange}
 use Rattle.records.specs.Records.{bookAfter, lookChange, putChange, readChange, writeChange}
-use Rattle.lane_calls.specs.declared.Caller.{Caller}
+use Rattle.lane_calls.specs.declared.Scope.{Scope}
 
-abbrev pub callerOf : Event → Caller
-callerOf (Event.Open lanes capacity) = Caller.Line
-callerOf (Event.Want i purpose) = Caller.Lane i
-callerOf (Event.Receive i) = Caller.Lane i
-callerOf (Event.Take i c) = Caller.Lane i
-callerOf (Event.Write i content) = Caller.Lane i
-callerOf (Event.Read i) = Caller.Lane i
-callerOf (Event.Put i k content) = Caller.Lane i
-callerOf (Event.Look i k) = Caller.Lane i
-callerOf (Event.Free i) = Caller.Lane i
-callerOf (Event.Enter i c) = Caller.Line
-callerOf (Event.View displacement extent used blocks) = Caller.Line
-callerOf (Event.Seek whence offset) = Caller.Line
-callerOf Event.Unlisted = Caller.Line
+abbrev pub scopeOf : Event → Scope
+scopeOf (Event.Open lanes capacity) = Scope.Line
+scopeOf (Event.Want i purpose) = Scope.Lane i
+scopeOf (Event.Receive i) = Scope.Lane i
+scopeOf (Event.Take i c) = Scope.Lane i
+scopeOf (Event.Write i content) = Scope.Lane i
+scopeOf (Event.Read i) = Scope.Lane i
+scopeOf (Event.Put i k content) = Scope.Lane i
+scopeOf (Event.Look i k) = Scope.Lane i
+scopeOf (Event.Free i) = Scope.Lane i
+scopeOf (Event.Enter i c) = Scope.Line
+scopeOf (Event.View displacement extent used blocks) = Scope.Line
+scopeOf (Event.Seek whence offset) = Scope.Line
+scopeOf Event.Unlisted = Scope.Line
 
--- the change; a call of another kind is none of a lane's, and is refused
+-- the change; of a call of another kind nothing is said by this: no law below speaks of it
 unfoldable pub decided : Seen → View → List ℕ → List ℕ → Event → Change
 decided s v flags book (Event.Open lanes capacity) = refused s 2
 decided s v flags book (Event.Want i purpose) = wantChange s flags i purpose

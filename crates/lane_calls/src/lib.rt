@@ -1,42 +1,42 @@
-// The calls that a lane makes by itself, 02 to 09, each as a change of what the lane sees; used by the calls on a line and by the run of a sheet.
+// The calls 02 to 09, which change one lane, the line's numbers and the lane that is woken, each as a change; used by the calls on a line and by the run of a sheet.
 ghost use mathlib.Core.Path.{_≡_};
 ghost use lib.ListN.{length};
 ghost use Rattle.changes.specs.Change.{Within};
-ghost use Rattle.lane_calls.specs.Decided.{bookDecided, callerOf, decided};
+ghost use Rattle.lane_calls.specs.Decided.{bookDecided, scopeOf, decided};
 use changes::Change;
 use changes::Seen;
 use changes::refuse;
 use event::Event;
 use view::View;
 
-// Who an event changes: one lane, with the line's numbers and the lane that it wakes, or the whole line.
-pub enum Caller {
+// What an event can change: one lane, with the line's numbers and the lane that it wakes, or the whole line.
+pub enum Scope {
     Lane(u8),
     Line,
 }
 
-// The lane of a call of the kinds 02 to 09.
-pub fn caller_of(event: Event) -> Caller
-    ensures { λ r. ⌜ r ≡ callerOf event ⌝ }
+// The lane of a call of the kinds 02 to 09; the others can change the whole line.
+pub fn scope_of(event: Event) -> Scope
+    ensures { λ r. ⌜ r ≡ scopeOf event ⌝ }
 {
     match event {
-        Event::Want { lane, purpose: _ } => Caller::Lane(lane),
-        Event::Receive { lane } => Caller::Lane(lane),
-        Event::Take { lane, count: _ } => Caller::Lane(lane),
-        Event::Write { lane, content: _ } => Caller::Lane(lane),
-        Event::Read { lane } => Caller::Lane(lane),
+        Event::Want { lane, purpose: _ } => Scope::Lane(lane),
+        Event::Receive { lane } => Scope::Lane(lane),
+        Event::Take { lane, count: _ } => Scope::Lane(lane),
+        Event::Write { lane, content: _ } => Scope::Lane(lane),
+        Event::Read { lane } => Scope::Lane(lane),
         Event::Put {
             lane,
             place: _,
             content: _,
-        } => Caller::Lane(lane),
-        Event::Look { lane, place: _ } => Caller::Lane(lane),
-        Event::Free { lane } => Caller::Lane(lane),
-        _ => Caller::Line,
+        } => Scope::Lane(lane),
+        Event::Look { lane, place: _ } => Scope::Lane(lane),
+        Event::Free { lane } => Scope::Lane(lane),
+        _ => Scope::Line,
     }
 }
 
-// What the call of a lane changes; a record that is put is stored in the book.
+// What a call of the kinds 02 to 09 changes; a record that is put is stored in the book. No other kind is asked of it, so that its last arm is never reached.
 pub fn decide(seen: Seen, view: View, flags: &[u8], book: &mut [u8], event: Event) -> Change
     requires { ⌜ Within seen view (length (now book)) ⌝ }
     ensures is { λ r. ⌜ r ≡ decided seen view (now (flags .entry)) (now (book .entry)) event ⌝ }

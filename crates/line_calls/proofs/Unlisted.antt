@@ -12,8 +12,8 @@ use Rattle.line.specs.Sound.{sound}
 use Rattle.waitlist.specs.NextLane.{nextLane}
 use Rattle.event.specs.declared.Event.{Event}
 use Rattle.event.proofs.Event.{the-type}
-use Rattle.lane_calls.specs.Decided.{callerOf}
-use Rattle.lane_calls.specs.declared.Caller.{Caller}
+use Rattle.lane_calls.specs.Decided.{scopeOf}
+use Rattle.lane_calls.specs.declared.Scope.{Scope}
 use Rattle.steps.specs.Meets.{Meets, stateOf}
 use Rattle.steps.specs.Step.{callEvent}
 use Rattle.steps.specs.declared.Outcome.{Outcome}
@@ -25,10 +25,10 @@ use Rattle.refusals.proofs.First.{meets-refused, when-sound}
 abbrev rest : List ℕ
 rest = 1 ∷ 2 ∷ 3 ∷ 4 ∷ 5 ∷ 6 ∷ 7 ∷ 8 ∷ 12 ∷ []
 
-a-lane : {X : Type 0} {i : ℕ} → Caller.Lane i ≡ Caller.Line → X
+a-lane : {X : Type 0} {i : ℕ} → Scope.Lane i ≡ Scope.Line → X
 a-lane h = let z : _≡_ {A = ℕ} 0 1 = cc in absurd (omega arith)
 
-pub unlisted : (e : Event) → OneOf rest (tagOf the-type e) → callerOf e ≡ Caller.Line → e ≡ Event.Unlisted
+pub unlisted : (e : Event) → OneOf rest (tagOf the-type e) → scopeOf e ≡ Scope.Line → e ≡ Event.Unlisted
 unlisted (Event.Open lanes capacity) t h = absurd (miss rest 0 tt t)
 unlisted (Event.Want j purpose) t h = a-lane h
 unlisted (Event.Receive j) t h = a-lane h

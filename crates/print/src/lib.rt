@@ -23,7 +23,7 @@ ghost use Rattle.print.specs.Printing.{mostLine, printedTo, printingOf};
 // The longest line: a number of 20 digits, a blank, `region` with 10 and 5 digits, ` wakes none` and the line end.
 pub const MOST_LINE: usize = 56;
 
-// The length of the line that was stored, or a buffer that is shorter than the longest line.
+// The length of the text that was stored, or that the buffer may be too short for it.
 pub enum Printed {
     Length(usize),
     TooShort,

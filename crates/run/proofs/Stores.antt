@@ -22,8 +22,8 @@ use Rattle.changes.specs.Change.{applied, changed, entryOf, seenOf, wakesIn}
 use Rattle.changes.specs.declared.Change.{Change}
 use Rattle.changes.specs.declared.Seen.{Seen}
 use Rattle.changes.proofs.Steps.{Regular, entry-is, gathering-kept}
-use Rattle.lane_calls.specs.declared.Caller.{Caller}
-use Rattle.lane_calls.specs.Decided.{bookDecided, callerOf, decided}
+use Rattle.lane_calls.specs.declared.Scope.{Scope}
+use Rattle.lane_calls.specs.Decided.{bookDecided, scopeOf, decided}
 use Rattle.lane_calls.proofs.Steps.{decided-regular, decided-step}
 
 -- an outcome that meets a step has all of it
@@ -47,7 +47,7 @@ pub record Called (l : Line) (book : List ℕ) (e : Event) (a : Answer) (line′
   pub called : callEvent (stateOf l book) e ≡ leaves a line′ book′
   pub gathered : any (on isGathered) (line′ .lane) ≡ any (on isGathered) (l .lane)
 
-module _ (l : Line) (book : List ℕ) (few : l .lanes ≤ mostLanes) (ok : sound l (length book) ≡ true) (e : Event) (lane : ℕ) (by : callerOf e ≡ Caller.Lane lane)
+module _ (l : Line) (book : List ℕ) (few : l .lanes ≤ mostLanes) (ok : sound l (length book) ≡ true) (e : Event) (lane : ℕ) (by : scopeOf e ≡ Scope.Lane lane)
     (c : Change) (book′ : List ℕ) (seen : Seen) (sees : seen ≡ seenOf l (entryOf lane)) (is : c ≡ decided seen (l .view) (l .flag) book e) (puts : book′ ≡ bookDecided seen (l .view) book e) where
   abbrev j : ℕ
   j = entryOf lane

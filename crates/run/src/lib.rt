@@ -12,9 +12,9 @@ use changes::Seen;
 use changes::entry_of;
 use changes::phases::wake_with;
 use event::Reading;
-use lane_calls::Caller;
-use lane_calls::caller_of;
+use lane_calls::Scope;
 use lane_calls::decide;
+use lane_calls::scope_of;
 use lanes::tallies::any_gathered;
 use line::Lane;
 use line::Line;
@@ -78,9 +78,9 @@ fn run_sound(line: Line, book: &mut [u8], sheet: &[u8], out: &mut [u8]) -> RunOu
             };
         };
         at = step.at;
-        let caller = caller_of(event);
-        match caller {
-            Caller::Line => {
+        let scope = scope_of(event);
+        match scope {
+            Scope::Line => {
                 let called = call_line(next, book, event);
                 let answer = called.answer;
                 length = put_answer(out, length, number, answer);
@@ -90,7 +90,7 @@ fn run_sound(line: Line, book: &mut [u8], sheet: &[u8], out: &mut [u8]) -> RunOu
                 gathering = any_gathered(lanes);
                 next = after;
             }
-            Caller::Lane(lane) => {
+            Scope::Lane(lane) => {
                 let i = entry_of(lane);
                 let own = next.lane[i];
                 let phase = own.phase;
@@ -117,8 +117,8 @@ fn run_sound(line: Line, book: &mut [u8], sheet: &[u8], out: &mut [u8]) -> RunOu
                 let wakes = change.wakes;
                 if let Wakes::Lane(woken) = wakes {
                     let w = entry_of(woken);
-                    let sleeper = next.lane[w];
-                    let waiting = sleeper.phase;
+                    let waiting_lane = next.lane[w];
+                    let waiting = waiting_lane.phase;
                     next.lane[w] = Lane {
                         phase: wake_with(moved, waiting),
                     };

@@ -1,1 +1,1 @@
-// The run of a sheet and its printed lines. They are defined in specs/; the functions come with the program.
+// The run of a sheet and what is printed of it: definitions in specs/ alone. The functions are in `run` and `print`.

@@ -125,7 +125,7 @@ fn take_region(seen: Seen, flags: &[u8], lane: u8, start: Place, count: u16, pha
     ensures { λ r. ⌜ r ≡ taken seen (now (flags .entry)) lane start count phase ⌝ }
 {
     let pointer = Place(start.0 + count as u32);
-    let wakes = waitlist::next_after(seen.lanes, flags, lane);
+    let wakes = waitlist::next_lane(seen.lanes, flags, lane);
     let answer = Answer::Region {
         start,
         count,
@@ -209,7 +209,7 @@ pub fn free(seen: Seen, flags: &[u8], lane: u8) -> Change
         return refuse(seen, 13);
     }
     let pointer = seen.pointer;
-    let wakes = waitlist::next_after(seen.lanes, flags, lane);
+    let wakes = waitlist::next_lane(seen.lanes, flags, lane);
     let answer = Answer::Freed { wakes };
     release(seen, answer, Phase::Idle, pointer, wakes)
 }

@@ -1,9 +1,10 @@
 -- The search once the releaser's flag is down is the search that steps over the releaser.
-use Prim.Native.Nat.{ℕ, zero, suc, _+_, _-_, _≤_, _<_}
+use Prim.Native.Nat.{ℕ, zero, suc, _+_, _-_, _≤_, _<_, min}
 use mathlib.Core.Path.{_≡_, refl, sym, _∙_}
 use mathlib.Core.Bool.{Bool, true, false, cond}
 use mathlib.Core.List.{List, [], _∷_}
 use native.Mathlib.Omega.{arith}
+use native.Mathlib.Decide.{decLt}
 use lib.ListN.{getD, set}
 use lib.Seq.{getD-set-other}
 use Rattle.waitlist.specs.declared.Wakes.{Wakes}
@@ -65,8 +66,22 @@ module _ (lanes : ℕ) (flags : List ℕ) (releaser : ℕ) (h : releaser < lanes
       ∙ rw (zero-add, from-releaser, first-away flags releaser 0 releaser (λ j k m e. omega arith)) in
       rw (← parts) at whole
 
-  pub next-lowered : nextLane lanes (set flags releaser 0) releaser ≡ orElse above (firstRaised flags 0 releaser)
+  below-lanes : nextLane lanes (set flags releaser 0) releaser ≡ orElse above (firstRaised flags 0 releaser)
   unfolding nextLane
-  next-lowered =
+  below-lanes =
       rw (from-zero, first-away flags releaser (releaser + 1) (lanes - (releaser + 1)) (λ j k m e. omega arith))
       (twice above (firstRaised flags 0 releaser))
+
+-- a releaser that is no lane of the line has no flag there
+past-lanes : (lanes : ℕ) (flags : List ℕ) (releaser : ℕ) → lanes ≤ releaser → nextLane lanes (set flags releaser 0) releaser ≡ orElse (firstRaised flags (releaser + 1) (lanes - (releaser + 1))) (firstRaised flags 0 lanes)
+unfolding nextLane
+past-lanes lanes flags releaser h =
+    rw (first-away flags releaser (releaser + 1) (lanes - (releaser + 1)) (λ j k m e. omega arith), first-away flags releaser 0 lanes (λ j k m e. omega arith))
+
+pub next-lowered : (lanes : ℕ) (flags : List ℕ) (releaser : ℕ)
+    → nextLane lanes (set flags releaser 0) releaser ≡ orElse (firstRaised flags (releaser + 1) (lanes - (releaser + 1))) (firstRaised flags 0 (min releaser lanes))
+next-lowered lanes flags releaser =
+    elim (decLt releaser lanes) [
+      | yes h ↦ let m : min releaser lanes ≡ releaser = omega arith in rw m (below-lanes lanes flags releaser h)
+      | no h ↦ let m : min releaser lanes ≡ lanes = omega arith in rw m (past-lanes lanes flags releaser (omega arith))
+    ]

@@ -1,5 +1,5 @@
 // The waitlist: whether another lane has its flag up, and which lane a release wakes.
-ghost use Prim.Native.Nat.{_+_, _-_, _≤_, _<_};
+ghost use Prim.Native.Nat.{_+_, _-_, _≤_, min};
 ghost use mathlib.Core.Path.{_≡_};
 ghost use lib.Dec.{eqb};
 ghost use lib.ListN.{getD, set};
@@ -69,27 +69,26 @@ fn first_raised(flags: &[u8], start: usize, end: usize) -> Wakes
     Wakes::None
 }
 
-// The next lane: the first flagged one after the releaser, upwards, then from 0.
-pub fn next_lane(lanes: u8, flags: &[u8], releaser: u8) -> Wakes
-    ensures { λ r. ⌜ r ≡ nextLane lanes (now (flags .entry)) releaser ⌝ }
+// The smaller of two lane numbers.
+fn least(a: usize, b: usize) -> usize
+    ensures { λ r. ⌜ r ≡ min a b ⌝ }
 {
-    let end = index(lanes);
-    let above = first_raised(flags, index(releaser) + 1, end);
-    match above {
-        Wakes::Lane(i) => Wakes::Lane(i),
-        Wakes::None => first_raised(flags, 0, end),
+    if a < b {
+        return a;
     }
+    b
 }
 
-// The next lane once the releaser's flag is down, whether it is down yet or not: the search steps over the releaser.
-pub fn next_after(lanes: u8, flags: &[u8], releaser: u8) -> Wakes
-    requires { ⌜ releaser < lanes ⌝ }
+// The next lane once the releaser's flag is down: the first flagged one after the releaser, upwards, then from 0 up to it.
+// The releaser's own flag is not looked at, so that it does not matter whether it is down yet.
+pub fn next_lane(lanes: u8, flags: &[u8], releaser: u8) -> Wakes
     ensures { λ r. ⌜ r ≡ nextLane lanes (set (now (flags .entry)) releaser 0) releaser ⌝ }
 {
+    let end = index(lanes);
     let own = index(releaser);
-    let above = first_raised(flags, own + 1, index(lanes));
+    let above = first_raised(flags, own + 1, end);
     match above {
         Wakes::Lane(i) => Wakes::Lane(i),
-        Wakes::None => first_raised(flags, 0, own),
+        Wakes::None => first_raised(flags, 0, least(own, end)),
     }
 }

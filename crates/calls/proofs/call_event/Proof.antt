@@ -19,18 +19,18 @@ returns c =
     let s = tested .before .before in
     unsound (s .args .line) (s .args .book .now) (given (s .args .event)) _ (sym (tested .is-sound .ensures) ∙ not-true _ (c .before .if1 .taken)) (c .refuse .ensures)
 
-caller-of-requires : tie.Need-caller-of-requires
-caller-of-requires c κs = search needs
+scope-of-requires : tie.Need-scope-of-requires
+scope-of-requires c κs = search needs
 
-enum-known-caller : tie.Need-enum-known-caller
-enum-known-caller c = search needs
+enum-known-scope : tie.Need-enum-known-scope
+enum-known-scope c = search needs
 
 call-lane-requires : tie.Need-call-lane-requires
 call-lane-requires c κs =
     let told = c .before .before in
     let d = told .before .before in
     let e = d .before in
-    (sym (e .before .is-sound .ensures) ∙ not-false _ (e .if1 .left), sym (d .caller-of .ensures) ∙ told .caller .given .1)
+    (sym (e .before .is-sound .ensures) ∙ not-false _ (e .if1 .left), sym (d .scope-of .ensures) ∙ told .scope .given .1)
 
 enum-told : tie.Need-enum-told
 enum-told c = search needs
@@ -40,7 +40,7 @@ call-line-requires c κs =
     let told = c .before in
     let d = told .before .before in
     let e = d .before in
-    (sym (e .before .is-sound .ensures) ∙ not-false _ (e .if1 .left), sym (d .caller-of .ensures) ∙ told .enum-told .given .1)
+    (sym (e .before .is-sound .ensures) ∙ not-false _ (e .if1 .left), sym (d .scope-of .ensures) ∙ told .enum-told .given .1)
 
 same-length : tie.Need-same-length
 same-length c = search needs
@@ -61,8 +61,8 @@ call-event-spec =
     is-sound-requires
     refuse-requires
     returns
-    caller-of-requires
-    enum-known-caller
+    scope-of-requires
+    enum-known-scope
     call-lane-requires
     enum-told
     call-line-requires

@@ -1,12 +1,20 @@
 -- `gudlemi_run` meets its contract: it is the run from an unopened line.
-use mathlib.Core.Path.{_≡_, sym, ap, _∙_}
+use Prim.Native.Nat.{ℕ}
+use mathlib.Core.Path.{_≡_, sym, ap, _∙_, subst}
+use mathlib.Core.List.{List}
 use Rattle.line.specs.declared.Line.{Line}
 use Rattle.steps.specs.Meets.{stateOf}
-use Rattle.run.specs.Runs.{leftBy, printedBy, textIn}
-use Rattle.embed.specs.Embedded.{lengthOf}
+use Rattle.line.specs.Line.{unopened}
+use Rattle.run.specs.Runs.{RunMeets}
+use Rattle.run.specs.declared.RunOutcome.{RunOutcome}
+use Rattle.embed.specs.Embedded.{fresh, lengthOf}
 use borrow.Author.Needs.{needs}
 use Rattle.embed.proofs.gudlemi_run.Statement.{statement}
 use Rattle.embed.proofs.gudlemi_run.Tie as tie
+
+-- the run from a line that is the unopened one
+from-unopened : (l : Line) (book sheet text : List ℕ) (o : RunOutcome) (book′ text′ : List ℕ) → l ≡ unopened → RunMeets (stateOf l book) sheet text o book′ text′ → RunMeets (fresh book) sheet text o book′ text′
+from-unopened l book sheet text o book′ text′ e m = subst (λ (k : Line). RunMeets (stateOf k book) sheet text o book′ text′) e m
 
 unopened-requires : tie.Need-unopened-requires
 unopened-requires c κs = search needs
@@ -31,14 +39,8 @@ returns c =
     let told = c .before in
     let r = told .before .before .before .before .before .before in
     let u = r .before .before .before in
-    let s = u .before .before .before .before in
-    let meets = r .run .ensures in (
-      ap lengthOf (sym (told .printed .given .1) ∙ meets .answer) ∙ ap (λ (l : Line). lengthOf (printedBy (stateOf l (s .args .book .now)) (s .args .sheet .now) (s .args .text .now))) (u .unopened .ensures),
-      (
-        meets .book ∙ ap (λ (l : Line). leftBy (stateOf l (s .args .book .now)) (s .args .sheet .now) (s .args .text .now) .book) (u .unopened .ensures),
-        meets .text ∙ ap (λ (l : Line). textIn (stateOf l (s .args .book .now)) (s .args .sheet .now) (s .args .text .now)) (u .unopened .ensures),
-      ),
-    )
+    let m = from-unopened _ _ _ _ _ _ _ (u .unopened .ensures) (r .run .ensures) in
+    (ap lengthOf (sym (told .printed .given .1) ∙ m .answer), (m .book, (rw (m .answer) at (m .fits), m .text)))
 
 same-length-3 : tie.Need-same-length-3
 same-length-3 c = search needs
@@ -50,14 +52,8 @@ returns-2 : tie.Need-returns-2
 returns-2 c =
     let r = c .before .before .before .before .before .before in
     let u = r .before .before .before in
-    let s = u .before .before .before .before in
-    let meets = r .run .ensures in (
-      ap lengthOf (sym (c .enum-told .given .1) ∙ meets .answer) ∙ ap (λ (l : Line). lengthOf (printedBy (stateOf l (s .args .book .now)) (s .args .sheet .now) (s .args .text .now))) (u .unopened .ensures),
-      (
-        meets .book ∙ ap (λ (l : Line). leftBy (stateOf l (s .args .book .now)) (s .args .sheet .now) (s .args .text .now) .book) (u .unopened .ensures),
-        meets .text ∙ ap (λ (l : Line). textIn (stateOf l (s .args .book .now)) (s .args .sheet .now) (s .args .text .now)) (u .unopened .ensures),
-      ),
-    )
+    let m = from-unopened _ _ _ _ _ _ _ (u .unopened .ensures) (r .run .ensures) in
+    (ap lengthOf (sym (c .enum-told .given .1) ∙ m .answer), (m .book, (rw (m .answer) at (m .fits), m .text)))
 
 pub gudlemi-run-spec : {M : Type 1} → statement M
 gudlemi-run-spec =

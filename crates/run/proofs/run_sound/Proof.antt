@@ -9,8 +9,8 @@ use Rattle.line.proofs.Facts.{good-of}
 use Rattle.changes.specs.Change.{entryOf, seenOf}
 use Rattle.changes.specs.declared.Seen.{Seen}
 use Rattle.changes.proofs.Within.{within-good}
-use Rattle.lane_calls.specs.declared.Caller.{Caller}
-use Rattle.lane_calls.specs.Decided.{callerOf}
+use Rattle.lane_calls.specs.declared.Scope.{Scope}
+use Rattle.lane_calls.specs.Decided.{scopeOf}
 use Rattle.event.specs.ReadWrite.{readAt}
 use Rattle.event.specs.declared.Cursor.{Cursor}
 use Rattle.event.specs.declared.Event.{Event}
@@ -41,12 +41,12 @@ start l = start-of (l .before)
 abbrev loop-at : tie.After-event-at Inv-loop μ-loop → tie.At-loop Inv-loop μ-loop
 loop-at c = c .before
 
-abbrev event-of : tie.After-caller-of Inv-loop μ-loop → tie.After-event-at Inv-loop μ-loop
+abbrev event-of : tie.After-scope-of Inv-loop μ-loop → tie.After-event-at Inv-loop μ-loop
 event-of c = c .before .before .before .before
 
--- the caller of the whole line's arm, and of the lane's
-abbrev line-caller : tie.After-any-gathered2 Inv-loop μ-loop → tie.After-caller-of Inv-loop μ-loop
-line-caller c = c .before .before .before .before .before .before .before .before .before .before .before .before .before
+-- the scope of the whole line's arm, and of the lane's
+abbrev line-scope : tie.After-any-gathered2 Inv-loop μ-loop → tie.After-scope-of Inv-loop μ-loop
+line-scope c = c .before .before .before .before .before .before .before .before .before .before .before .before .before
 
 abbrev decide-at : tie.After-enum-told2 Inv-loop μ-loop → tie.After-decide Inv-loop μ-loop
 decide-at c = c .before .before .before .before .before .before .before .before .before
@@ -54,31 +54,31 @@ decide-at c = c .before .before .before .before .before .before .before .before 
 abbrev decide-at-woken : tie.After-wake-with Inv-loop μ-loop → tie.After-decide Inv-loop μ-loop
 decide-at-woken c = c .before .before .before .before .before .before .before .before .before .before .before .before .before
 
-abbrev caller-at : tie.After-decide Inv-loop μ-loop → tie.After-caller-of Inv-loop μ-loop
-caller-at d = d .before .before .before .before .before .before .before .before .before .before .before .before .before
+abbrev scope-at : tie.After-decide Inv-loop μ-loop → tie.After-scope-of Inv-loop μ-loop
+scope-at d = d .before .before .before .before .before .before .before .before .before .before .before .before .before
 
 -- what was read
 reading-is : (c : tie.After-event-at Inv-loop μ-loop) → readAt (start (loop-at c) .args .sheet .now) (loop-at c .loop .at) ≡ c .event-at .result .reading
 reading-is c = sym (ap (λ (s : Step). s .reading) (c .event-at .ensures))
 
-abbrev told-at : tie.After-caller-of Inv-loop μ-loop → tie.After-reading Inv-loop μ-loop
+abbrev told-at : tie.After-scope-of Inv-loop μ-loop → tie.After-reading Inv-loop μ-loop
 told-at c = c .before .before
 
-abbrev event : tie.After-caller-of Inv-loop μ-loop → Event
+abbrev event : tie.After-scope-of Inv-loop μ-loop → Event
 event c = told-at c .reading .given .0 .0
 
-abbrev cursor : tie.After-caller-of Inv-loop μ-loop → Cursor
+abbrev cursor : tie.After-scope-of Inv-loop μ-loop → Cursor
 cursor c = told-at c .reading .given .0 .1 .0
 
-event-is : (c : tie.After-caller-of Inv-loop μ-loop) → readAt (start (loop-at (event-of c)) .args .sheet .now) (loop-at (event-of c) .loop .at) ≡ Reading.Event (event c) (cursor c)
+event-is : (c : tie.After-scope-of Inv-loop μ-loop) → readAt (start (loop-at (event-of c)) .args .sheet .now) (loop-at (event-of c) .loop .at) ≡ Reading.Event (event c) (cursor c)
 event-is c = reading-is (event-of c) ∙ told-at c .reading .given .1
 
 -- where the cursor goes
-at-is : (c : tie.After-caller-of Inv-loop μ-loop) → event-of c .event-at .result .at ≡ cursor c .at
+at-is : (c : tie.After-scope-of Inv-loop μ-loop) → event-of c .event-at .result .at ≡ cursor c .at
 at-is c =
     ap (λ (s : Step). s .at) (event-of c .event-at .ensures) ∙ ap (afterReading (loop-at (event-of c) .loop .at)) (event-is c)
 
-less : (c : tie.After-caller-of Inv-loop μ-loop) → length (start (loop-at (event-of c)) .args .sheet .now) - event-of c .event-at .result .at < length (start (loop-at (event-of c)) .args .sheet .now) - loop-at (event-of c) .loop .at
+less : (c : tie.After-scope-of Inv-loop μ-loop) → length (start (loop-at (event-of c)) .args .sheet .now) - event-of c .event-at .result .at < length (start (loop-at (event-of c)) .args .sheet .now) - loop-at (event-of c) .loop .at
 less c =
     let r = reads _ _ (event c) (cursor c) (event-is c) in
     omega (arith, at-is c, r .longer, r .within)
@@ -93,14 +93,14 @@ room l =
 abbrev entry-at : tie.After-decide Inv-loop μ-loop → tie.After-entry-of Inv-loop μ-loop
 entry-at d = d .before .before .before .before .before .before .before .before .before
 
-abbrev entry-caller : tie.After-entry-of Inv-loop μ-loop → tie.After-caller-of Inv-loop μ-loop
-entry-caller e = e .before .before .before .before
+abbrev entry-scope : tie.After-entry-of Inv-loop μ-loop → tie.After-scope-of Inv-loop μ-loop
+entry-scope e = e .before .before .before .before
 
 abbrev entry-loop : tie.After-entry-of Inv-loop μ-loop → tie.At-loop Inv-loop μ-loop
-entry-loop e = loop-at (event-of (entry-caller e))
+entry-loop e = loop-at (event-of (entry-scope e))
 
 abbrev lane-of : tie.After-entry-of Inv-loop μ-loop → ℕ
-lane-of e = e .before .before .caller .given .0 .0
+lane-of e = e .before .before .scope .given .0 .0
 
 abbrev seen-at : tie.After-entry-of Inv-loop μ-loop → Seen
 seen-at e = seenWith (entry-loop e .loop .next) (e .entry-of .result) (entry-loop e .loop .gathering)
@@ -109,8 +109,8 @@ sees : (e : tie.After-entry-of Inv-loop μ-loop) → seen-at e ≡ seenOf (entry
 sees e =
     sees-line (entry-loop e .loop .next) (e .entry-of .result) (entryOf (lane-of e)) (entry-loop e .loop .gathering) (e .entry-of .ensures .0) (entry-loop e .loop .inv .gathered)
 
-by-lane : (e : tie.After-entry-of Inv-loop μ-loop) → callerOf (event (entry-caller e)) ≡ Caller.Lane (lane-of e)
-by-lane e = sym (entry-caller e .caller-of .ensures) ∙ e .before .before .caller .given .1
+by-lane : (e : tie.After-entry-of Inv-loop μ-loop) → scopeOf (event (entry-scope e)) ≡ Scope.Lane (lane-of e)
+by-lane e = sym (entry-scope e .scope-of .ensures) ∙ e .before .before .scope .given .1
 
 any-gathered-requires : tie.Need-any-gathered-requires Inv-loop μ-loop
 any-gathered-requires c κs = search needs
@@ -143,8 +143,8 @@ returns c =
     ends _ _ _ _ _ _ _ _ _ _ (l .loop .inv) (ev .event-at .result .reading) _ _ (m .match .keys2) (reading-is ev) (p .put-last .ensures .0) (start l .pre .0)
     (omega (arith, p .put-last .ensures .1, room l, l .loop .inv .out-length))
 
-caller-of-requires : tie.Need-caller-of-requires Inv-loop μ-loop
-caller-of-requires c κs = search needs
+scope-of-requires : tie.Need-scope-of-requires Inv-loop μ-loop
+scope-of-requires c κs = search needs
 
 enum-told : tie.Need-enum-told Inv-loop μ-loop
 enum-told c = search needs
@@ -154,7 +154,7 @@ call-line-requires c κs =
     let told = c .before in
     let co = told .before .before in
     let l = loop-at (event-of co) in
-    (is-sound _ _ _ _ _ _ _ _ _ _ (l .loop .inv), sym (co .caller-of .ensures) ∙ told .enum-told .given .1)
+    (is-sound _ _ _ _ _ _ _ _ _ _ (l .loop .inv), sym (co .scope-of .ensures) ∙ told .enum-told .given .1)
 
 put-answer-requires : tie.Need-put-answer-requires Inv-loop μ-loop
 put-answer-requires c κs = omega (arith, room (loop-at (event-of (c .before .before .before .before .before .before .before))))
@@ -169,19 +169,19 @@ any-gathered-requires-2 c κs = search needs
 
 loop-less : tie.Need-loop-less Inv-loop μ-loop
 loop-less c =
-    less (line-caller c)
+    less (line-scope c)
 
 loop-again : tie.Need-loop-again Inv-loop μ-loop
 loop-again c =
-    let co = line-caller c in
+    let co = line-scope c in
     let l = loop-at (event-of co) in
     let k = c .before .before .before .before .before .before .before .before .before in
     let p = c .before .before .before .before .before in
     goes-on _ _ _ _ _ _ _ _ _ _ (l .loop .inv) (event co) (cursor co) (event-is co) (k .call-line .result .answer) (k .call-line .result .line) _ (met _ _ _ (k .call-line .ensures))
     _ _ (p .put-answer .ensures .0) (p .put-answer .ensures .1) _ (c .any-gathered2 .ensures) (k .call-line .kept .1 .0) (p .put-answer .kept .0) _ (at-is co)
 
-enum-known-caller : tie.Need-enum-known-caller Inv-loop μ-loop
-enum-known-caller c = search needs
+enum-known-scope : tie.Need-enum-known-scope Inv-loop μ-loop
+enum-known-scope c = search needs
 
 entry-of-requires : tie.Need-entry-of-requires Inv-loop μ-loop
 entry-of-requires c κs = search needs
@@ -202,11 +202,11 @@ decide-requires c κs =
     rw (sees e) (within-good (l .loop .next) (length (l .loop .book)) (l .loop .inv .good) (entryOf (lane-of e)))
 
 put-answer-requires-2 : tie.Need-put-answer-requires-2 Inv-loop μ-loop
-put-answer-requires-2 c κs = omega (arith, room (loop-at (event-of (caller-at (c .before .before .before)))))
+put-answer-requires-2 c κs = omega (arith, room (loop-at (event-of (scope-at (c .before .before .before)))))
 
 add-number-2 : tie.Need-add-number-2 Inv-loop μ-loop
 add-number-2 c =
-    let l = loop-at (event-of (caller-at (c .before .before .before .before .before .before))) in
+    let l = loop-at (event-of (scope-at (c .before .before .before .before .before .before))) in
     omega (arith, l .loop .inv .numbered)
 
 element-write-next : tie.Need-element-write-next Inv-loop μ-loop
@@ -224,11 +224,11 @@ enum-known-wakes c = search needs
 entry-of-requires-2 : tie.Need-entry-of-requires-2 Inv-loop μ-loop
 entry-of-requires-2 c κs = search needs
 
-mul-sleeper : tie.Need-mul-sleeper Inv-loop μ-loop
-mul-sleeper c = search needs
+mul-waiting-lane : tie.Need-mul-waiting-lane Inv-loop μ-loop
+mul-waiting-lane c = search needs
 
-element-copy-out-sleeper : tie.Need-element-copy-out-sleeper Inv-loop μ-loop
-element-copy-out-sleeper c = search needs
+element-copy-out-waiting-lane : tie.Need-element-copy-out-waiting-lane Inv-loop μ-loop
+element-copy-out-waiting-lane c = search needs
 
 wake-with-requires : tie.Need-wake-with-requires Inv-loop μ-loop
 wake-with-requires c κs = search needs
@@ -241,13 +241,13 @@ element-set-from-next-2 c = search needs
 
 loop-less-2 : tie.Need-loop-less-2 Inv-loop μ-loop
 loop-less-2 c =
-    less (caller-at (decide-at-woken c))
+    less (scope-at (decide-at-woken c))
 
 loop-again-2 : tie.Need-loop-again-2 Inv-loop μ-loop
 loop-again-2 c =
     let d = decide-at-woken c in
     let e = entry-at d in
-    let co = entry-caller e in
+    let co = entry-scope e in
     let l = entry-loop e in
     let p = c .before .before .before .before .before .before .before .before .before in
     let w = c .before .before .before .before in
@@ -263,13 +263,13 @@ enum-told-2 c = search needs
 
 loop-less-3 : tie.Need-loop-less-3 Inv-loop μ-loop
 loop-less-3 c =
-    less (caller-at (decide-at c))
+    less (scope-at (decide-at c))
 
 loop-again-3 : tie.Need-loop-again-3 Inv-loop μ-loop
 loop-again-3 c =
     let d = decide-at c in
     let e = entry-at d in
-    let co = entry-caller e in
+    let co = entry-scope e in
     let l = entry-loop e in
     let p = c .before .before .before .before .before in
     let G = l .loop .inv in
@@ -292,7 +292,7 @@ run-sound-spec =
     same-length
     same-length-2
     returns
-    caller-of-requires
+    scope-of-requires
     enum-told
     call-line-requires
     put-answer-requires
@@ -300,7 +300,7 @@ run-sound-spec =
     any-gathered-requires-2
     loop-less
     loop-again
-    enum-known-caller
+    enum-known-scope
     entry-of-requires
     mul-own
     element-copy-out-own
@@ -313,8 +313,8 @@ run-sound-spec =
     element-set-from-next
     enum-known-wakes
     entry-of-requires-2
-    mul-sleeper
-    element-copy-out-sleeper
+    mul-waiting-lane
+    element-copy-out-waiting-lane
     wake-with-requires
     mul-t65
     element-set-from-next-2

@@ -28,8 +28,8 @@ returns-3 c =
     let e = h .before in
     rw (ne-eqb _ _ (e .before .before .if1 .left), lt-leb _ _ (e .if2 .left), ← h .holds-whole .ensures, c .before .if3 .taken) (c .refuse3 .ensures)
 
-next-after-requires : tie.Need-next-after-requires
-next-after-requires c κs = search needs
+next-lane-requires : tie.Need-next-lane-requires
+next-lane-requires c κs = search needs
 
 release-requires : tie.Need-release-requires
 release-requires c κs = search needs
@@ -39,7 +39,7 @@ returns-4 c =
     let f = c .before .before .before in
     let h = f .before in
     let e = h .before in
-    rw (ne-eqb _ _ (e .before .before .if1 .left), lt-leb _ _ (e .if2 .left), ← h .holds-whole .ensures, f .if3 .left, ← c .before .next-after .ensures) (c .release .ensures)
+    rw (ne-eqb _ _ (e .before .before .if1 .left), lt-leb _ _ (e .if2 .left), ← h .holds-whole .ensures, f .if3 .left, ← c .before .next-lane .ensures) (c .release .ensures)
 
 pub free-spec : {M : Type 1} → statement M
 free-spec =
@@ -52,6 +52,6 @@ free-spec =
     holds-whole-requires
     refuse-requires-3
     returns-3
-    next-after-requires
+    next-lane-requires
     release-requires
     returns-4)

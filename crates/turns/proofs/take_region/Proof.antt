@@ -6,14 +6,14 @@ use Rattle.turns.proofs.take_region.Tie as tie
 add-t11 : tie.Need-add-t11
 add-t11 c = search needs
 
-next-after-requires : tie.Need-next-after-requires
-next-after-requires c κs = search needs
+next-lane-requires : tie.Need-next-lane-requires
+next-lane-requires c κs = search needs
 
 release-requires : tie.Need-release-requires
 release-requires c κs = search needs
 
 returns : tie.Need-returns
-returns c = rw (← c .before .next-after .ensures) (c .release .ensures)
+returns c = rw (← c .before .next-lane .ensures) (c .release .ensures)
 
 pub take-region-spec : {M : Type 1} → statement M
-take-region-spec = tie.close (tie.spec add-t11 next-after-requires release-requires returns)
+take-region-spec = tie.close (tie.spec add-t11 next-lane-requires release-requires returns)

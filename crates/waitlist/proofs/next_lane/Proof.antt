@@ -1,7 +1,7 @@
--- `next_lane` meets its contract: the second search counts where the first finds nothing.
+-- `next_lane` meets its contract: the second search counts where the first finds nothing, and ends below the releaser.
 use native.Mathlib.Nat.{sub-zero}
+use Rattle.waitlist.proofs.Lowered.{next-lowered}
 use borrow.Author.Needs.{needs}
-use Rattle.waitlist.specs.NextLane.{nextLane}
 use Rattle.waitlist.proofs.next_lane.Statement.{statement}
 use Rattle.waitlist.proofs.next_lane.Tie as tie
 
@@ -23,20 +23,25 @@ enum-known-above c = search needs
 enum-told : tie.Need-enum-told
 enum-told c = search needs
 
+least-requires : tie.Need-least-requires
+least-requires c κs = search needs
+
 first-raised-requires-2 : tie.Need-first-raised-requires-2
 first-raised-requires-2 c κs = search needs
 
 returns : tie.Need-returns
-unfolding nextLane
 returns c =
     let s = c .before .before .before in
-    rw (← s .before .before .index .ensures, ← s .before .index2 .ensures, ← s .first-raised .ensures, c .before .above .given .1)
+    let start = s .before .before .before .before in
+    let a = start .args in
+    rw (next-lowered (a .lanes) (a .flags .now) (a .releaser), ← s .before .before .index .ensures, ← s .before .index2 .ensures, ← s .first-raised .ensures, c .before .above .given .1)
 
 returns-2 : tie.Need-returns-2
-unfolding nextLane
 returns-2 c =
-    let s = c .before .before .before in
-    rw (← s .before .before .index .ensures, ← s .before .index2 .ensures, ← s .first-raised .ensures, c .before .enum-told .given .1)
+    let s = c .before .before .before .before in
+    let start = s .before .before .before .before in
+    let a = start .args in
+    rw (next-lowered (a .lanes) (a .flags .now) (a .releaser), ← s .before .before .index .ensures, ← s .before .index2 .ensures, ← s .first-raised .ensures, c .before .before .enum-told .given .1, ← c .before .least .ensures)
     (rw sub-zero at (c .first-raised2 .ensures))
 
 pub next-lane-spec : {M : Type 1} → statement M
@@ -49,6 +54,7 @@ next-lane-spec =
     first-raised-requires
     enum-known-above
     enum-told
+    least-requires
     first-raised-requires-2
     returns
     returns-2)

@@ -4,6 +4,7 @@
 use std::io::{self, Read, Write};
 use std::process::{Command, ExitCode, Stdio};
 use std::thread;
+use std::time::Duration;
 
 /// The next item of a stream, or none at its end.
 fn read_item(source: &mut impl Read) -> io::Result<Option<Vec<u8>>> {
@@ -24,9 +25,13 @@ fn printed(program: &str, sheet: Vec<u8>, piece: usize) -> io::Result<Vec<u8>> {
     let mut child = Command::new(program).stdin(Stdio::piped()).stdout(Stdio::piped()).spawn()?;
     let mut input = child.stdin.take().expect("a pipe");
     let feeder = thread::spawn(move || {
-        for part in sheet.chunks(piece) {
+        for (number, part) in sheet.chunks(piece).enumerate() {
             if input.write_all(part).and_then(|()| input.flush()).is_err() {
                 return;
+            }
+            // so that the program's reads come back short: the pipe would join pieces that follow at once
+            if piece < sheet.len() && number < 8 {
+                thread::sleep(Duration::from_millis(1));
             }
         }
     });

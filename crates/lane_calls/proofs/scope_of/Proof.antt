@@ -1,9 +1,9 @@
--- `caller_of` meets its contract, kind by kind.
+-- `scope_of` meets its contract, kind by kind.
 use mathlib.Core.Path.{sym}
 use Rattle.lane_calls.proofs.Others.{no-lane}
 use borrow.Author.Needs.{needs}
-use Rattle.lane_calls.proofs.caller_of.Statement.{statement}
-use Rattle.lane_calls.proofs.caller_of.Tie as tie
+use Rattle.lane_calls.proofs.scope_of.Statement.{statement}
+use Rattle.lane_calls.proofs.scope_of.Tie as tie
 
 enum-known-event : tie.Need-enum-known-event
 enum-known-event c = search needs
@@ -56,8 +56,8 @@ returns-8 c = rw (c .before .event8 .given .1)
 returns-9 : tie.Need-returns-9
 returns-9 c = sym (no-lane (c .before .args .event) (c .match .keys9))
 
-pub caller-of-spec : {M : Type 1} → statement M
-caller-of-spec =
+pub scope-of-spec : {M : Type 1} → statement M
+scope-of-spec =
     tie.close
     (tie.spec
     enum-known-event
