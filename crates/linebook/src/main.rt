@@ -1,22 +1,21 @@
-// linebook: a sheet from standard input, run on an unopened line and a book of 65,536 bytes; its printed lines to standard output.
+// linebook: a sheet from standard input, its text to standard output; what it prints is decided by `whole_sheet::print_sheet`.
 ghost use Prim.Native.Nat.{_≤_};
 ghost use mathlib.Core.Path.{_≡_};
 ghost use lib.ListN.{length};
-use line::Line;
 use print::Printed;
-use run::run;
+use whole_sheet::print_sheet;
 
-// The longest sheet.
-const MOST_SHEET: usize = 65536;
+// One byte more than the longest sheet is read, to tell a longer one.
+const MOST_READ: usize = 65537;
 
-// The longest text of such a sheet: 28 bytes for each of its bytes, and two lines more.
+// The longest text of a sheet: 28 bytes for each of its 65,536 bytes, and two lines more.
 const MOST_TEXT: usize = 1835120;
 
 // The buffers, as functions of which only the lengths are known where they are used.
-fn sheet_buffer() -> [u8; MOST_SHEET + 1]
+fn sheet_buffer() -> [u8; MOST_READ]
     ensures { λ r. ⌜ 65537 ≡ length r ⌝ }
 {
-    [0; MOST_SHEET + 1]
+    [0; MOST_READ]
 }
 
 fn text_buffer() -> [u8; MOST_TEXT]
@@ -32,25 +31,18 @@ fn print_first(text: &[u8], count: usize)
     io::write_all(1, &text[..count]);
 }
 
-// Runs a sheet and prints its text.
+// Runs a sheet on a book of 65,536 bytes and prints its text.
 fn print_run(sheet: &[u8]) {
     let mut book = io::large_buffer();
     let mut text = text_buffer();
-    let line = Line::unopened();
-    let ran = run(line, &mut book, sheet, &mut text);
-    let printed = ran.printed;
-    if let Printed::Length(length) = printed {
-        print_first(&text, length);
+    let printed = print_sheet(sheet, &mut book, &mut text);
+    if let Printed::Length(count) = printed {
+        print_first(&text, count);
     }
 }
 
-// One byte more than the longest sheet is read, to tell a longer one.
 fn main() {
     let mut space = sheet_buffer();
-    let length = io::read_full(0, &mut space);
-    if MOST_SHEET < length {
-        io::write_all(1, b"sheet too long\n");
-        return;
-    }
-    print_run(&space[..length]);
+    let count = io::read_full(0, &mut space);
+    print_run(&space[..count]);
 }

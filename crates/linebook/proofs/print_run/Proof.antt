@@ -1,4 +1,4 @@
--- `print_run` stays within its buffers: the text fits, as the contract of the run says.
+-- `print_run` stays within its buffers: the text fits, as the contract of `print_sheet` says.
 use Prim.Native.Nat.{ℕ, _≤_}
 use mathlib.Core.Path.{_≡_}
 use mathlib.Core.Bool.{true}
@@ -20,17 +20,14 @@ large-buffer-requires c κs = search needs
 text-buffer-requires : tie.Need-text-buffer-requires
 text-buffer-requires c κs = search needs
 
-unopened-requires : tie.Need-unopened-requires
-unopened-requires c κs = search needs
+slice-aggregate-print-sheet : tie.Need-slice-aggregate-print-sheet
+slice-aggregate-print-sheet c = search needs
 
-slice-aggregate-run : tie.Need-slice-aggregate-run
-slice-aggregate-run c = search needs
+slice-aggregate-print-sheet-2 : tie.Need-slice-aggregate-print-sheet-2
+slice-aggregate-print-sheet-2 c = search needs
 
-slice-aggregate-run-2 : tie.Need-slice-aggregate-run-2
-slice-aggregate-run-2 c = search needs
-
-run-requires : tie.Need-run-requires
-run-requires c κs = search needs
+print-sheet-requires : tie.Need-print-sheet-requires
+print-sheet-requires c κs = search needs
 
 enum-known-printed : tie.Need-enum-known-printed
 enum-known-printed c = search needs
@@ -42,7 +39,7 @@ print-first-requires : tie.Need-print-first-requires
 print-first-requires c κs =
     let p = c .before .before in
     let r = p .before .before .before .before in
-    omega (arith, within _ _ _ (p .printed .given .1) (r .run .ensures .fits), r .before .before .before .before .text-buffer .ensures, r .run .kept .1 .1 .1 .0)
+    omega (arith, within _ _ _ (p .printed .given .1) (r .print-sheet .ensures .1 .1 .1), r .before .before .before .text-buffer .ensures, r .print-sheet .kept .1 .1 .0)
 
 enum-told : tie.Need-enum-told
 enum-told c = search needs
@@ -59,10 +56,9 @@ print-run-spec =
     (tie.spec
     large-buffer-requires
     text-buffer-requires
-    unopened-requires
-    slice-aggregate-run
-    slice-aggregate-run-2
-    run-requires
+    slice-aggregate-print-sheet
+    slice-aggregate-print-sheet-2
+    print-sheet-requires
     enum-known-printed
     slice-aggregate-print-first
     print-first-requires

@@ -1,0 +1,2 @@
+-- That the text is what linebook prints.
+pub mod Linebook

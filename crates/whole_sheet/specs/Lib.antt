@@ -1,0 +1,2 @@
+-- What linebook prints, in a lent buffer.
+pub mod Whole
