@@ -1,0 +1,3 @@
+-- The papers' notation for sheets: read, and shown.
+pub mod Notation
+pub mod Show

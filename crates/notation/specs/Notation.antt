@@ -1,0 +1,112 @@
+-- The notation of the papers: hexadecimal digits in pairs, free characters between them, and comments from # to the line's end.
+use Prim.Native.Nat.{ℕ, _+_, _*_, _-_}
+use mathlib.Core.Bool.{Bool, true, false, cond}
+use mathlib.Core.List.{List, [], _∷_, _++_}
+use lib.ListN.{length, take}
+use lib.Seq.{sets}
+use lib.Dec.{eqb, ltb}
+use Rattle.notation.specs.declared.Fault.{Fault}
+use Rattle.notation.specs.declared.Parsed.{Parsed}
+use Rattle.notation.specs.declared.Spot.{Spot}
+use Rattle.notation.specs.declared.State.{State}
+
+-- ---- characters
+-- the value of a hexadecimal digit, in upper or lower case, or 16
+abbrev pub digitOf : ℕ → ℕ
+digitOf c =
+    cond (ltb c 48) 16
+    (cond (ltb c 58) (c - 48) (cond (ltb c 65) 16 (cond (ltb c 71) (c - 55) (cond (ltb c 97) 16 (cond (ltb c 103) (c - 87) 16)))))
+
+-- a blank, a tab, a comma or a carriage return; a line end is looked at first
+abbrev pub isFree : ℕ → Bool
+isFree c = cond (eqb c 32) true (cond (eqb c 9) true (cond (eqb c 44) true (eqb c 13)))
+
+-- ---- the state after a character
+-- no byte came of it: in a comment or not, and the first digit of a byte, or 16
+abbrev pub passedOf : Bool → ℕ → State
+passedOf comment high = record { comment = comment; high = high; made = false; value = 0; bad = false }
+
+-- a byte came of it
+abbrev pub whole : ℕ → State
+whole value = record { comment = false; high = 16; made = true; value = value; bad = false }
+
+-- it is no digit and not free
+abbrev pub faulty : ℕ → State
+faulty high = record { comment = false; high = high; made = false; value = 0; bad = true }
+
+abbrev pub start : State
+start = passedOf false 16
+
+unfoldable pub stepOf : State → ℕ → State
+stepOf s c =
+    cond (eqb c 10) (passedOf false (s .high))
+    (cond (s .comment) (passedOf true (s .high))
+    (cond (eqb c 35) (passedOf true (s .high))
+    (cond (isFree c) (passedOf false (s .high))
+    (cond (eqb (digitOf c) 16) (faulty (s .high))
+    (cond (eqb (s .high) 16) (passedOf false (digitOf c)) (whole (s .high * 16 + digitOf c)))))))
+
+-- ---- the bytes of a text
+abbrev pub madeOf : State → List ℕ
+madeOf s = cond (s .made) (s .value ∷ []) []
+
+unfoldable pub bytesFrom : State → List ℕ → List ℕ
+bytesFrom s [] = []
+bytesFrom s (c ∷ cs) = madeOf (stepOf s c) ++ bytesFrom (stepOf s c) cs
+
+abbrev pub bytesOf : List ℕ → List ℕ
+bytesOf text = bytesFrom start text
+
+-- ---- what is wrong in a text first: a character that is no digit, by its index, or an end after half a byte
+unfoldable pub faultFrom : ℕ → State → List ℕ → Fault
+faultFrom at s [] = cond (eqb (s .high) 16) Fault.None Fault.NoSecond
+faultFrom at s (c ∷ cs) = cond (stepOf s c .bad) (Fault.NoDigit at) (faultFrom (at + 1) (stepOf s c) cs)
+
+abbrev pub faultOf : List ℕ → Fault
+faultOf text = faultFrom 0 start text
+
+abbrev pub faultAt : Fault → ℕ
+faultAt (Fault.NoDigit at) = at
+faultAt Fault.NoSecond = 0
+faultAt Fault.None = 0
+
+-- ---- the line and the column after a text, both from 1
+abbrev pub spot : ℕ → ℕ → Spot
+spot line column = record { line = line; column = column }
+
+abbrev pub spotPast : Spot → ℕ → Spot
+spotPast s c = cond (eqb c 10) (spot (s .line + 1) 1) (spot (s .line) (s .column + 1))
+
+unfoldable pub spotFrom : Spot → List ℕ → Spot
+spotFrom s [] = s
+spotFrom s (c ∷ cs) = spotFrom (spotPast s c) cs
+
+abbrev pub spotOf : List ℕ → Spot
+spotOf text = spotFrom (spot 1 1) text
+
+-- ---- the parse of a text into a lent buffer
+abbrev pub mostText : ℕ
+mostText = 1048576
+
+abbrev pub storedOf : List ℕ → ℕ → Parsed
+storedOf text room = cond (ltb room (length (bytesOf text))) Parsed.TooShort (Parsed.Length (length (bytesOf text)))
+
+abbrev pub storedTo : List ℕ → List ℕ → List ℕ
+storedTo text out = cond (ltb (length out) (length (bytesOf text))) out (sets out 0 (bytesOf text))
+
+abbrev pub parsedBy : List ℕ → ℕ → Fault → Parsed
+parsedBy text room (Fault.NoDigit at) = Parsed.NoDigit (spotOf (take at text))
+parsedBy text room Fault.NoSecond = Parsed.NoSecond (spotOf text)
+parsedBy text room Fault.None = storedOf text room
+
+abbrev pub parsedOf : List ℕ → ℕ → Parsed
+parsedOf text room = cond (ltb mostText (length text)) Parsed.TooLong (parsedBy text room (faultOf text))
+
+-- the buffer after it: the bytes from its start on, or all as it was
+abbrev pub leftBy : List ℕ → List ℕ → Fault → List ℕ
+leftBy text out (Fault.NoDigit at) = out
+leftBy text out Fault.NoSecond = out
+leftBy text out Fault.None = storedTo text out
+
+abbrev pub leftOf : List ℕ → List ℕ → List ℕ
+leftOf text out = cond (ltb mostText (length text)) out (leftBy text out (faultOf text))

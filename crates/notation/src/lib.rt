@@ -1,0 +1,286 @@
+// The notation of the papers, read: hexadecimal digits in pairs, free characters between them, and comments from # to the line's end.
+mod show;
+
+pub use show::show_event;
+pub use show::show_parse;
+pub use show::show_refusal;
+ghost use Prim.Native.Nat.{_+_, _≤_, _<_};
+ghost use mathlib.Core.Path.{_≡_};
+ghost use lib.ListN.{length};
+ghost use Rattle.digits.specs.Stored.{Stored};
+ghost use Rattle.notation.specs.Notation.{bytesOf, digitOf, faultAt, faultOf, isFree, leftOf, madeOf, mostText, parsedOf, passedOf, spotOf, spotPast, stepOf, storedOf, storedTo};
+
+// The longest text.
+pub const MOST_TEXT: usize = 1048576;
+
+// Stands for no digit.
+const NONE: u8 = 16;
+
+// What is known after a character: in a comment or not, the first digit of a byte or NONE,
+// and whether the character ended a byte (its value) or was bad.
+pub struct State {
+    pub comment: bool,
+    pub high: u8,
+    pub made: bool,
+    pub value: u8,
+    pub bad: bool,
+}
+
+impl State {
+    // Before the first character.
+    pub const START: State = State {
+        comment: false,
+        high: NONE,
+        made: false,
+        value: 0,
+        bad: false,
+    };
+}
+
+// What is wrong in a text first: a character that is no digit, by its index, or an end after half a byte.
+pub enum Fault {
+    NoDigit(usize),
+    NoSecond,
+    None,
+}
+
+// A line and a column of a text, both from 1.
+pub struct Spot {
+    pub line: u64,
+    pub column: u64,
+}
+
+// What a parse answers: the number of bytes stored, where a digit or a second digit is missing,
+// a text of more than MOST_TEXT bytes, or a buffer too short for the bytes.
+pub enum Parsed {
+    Length(usize),
+    NoDigit(Spot),
+    NoSecond(Spot),
+    TooLong,
+    TooShort,
+}
+
+// The value of a hexadecimal digit, or NONE.
+fn digit(c: u8) -> u8
+    ensures { λ r. ⌜ (r ≡ digitOf c) × (r ≤ 16) ⌝ }
+{
+    if c < b'0' {
+        return NONE;
+    }
+    if c < 58 {
+        return c - b'0';
+    }
+    if c < b'A' {
+        return NONE;
+    }
+    if c < 71 {
+        return c - 55;
+    }
+    if c < b'a' {
+        return NONE;
+    }
+    if c < 103 {
+        return c - 87;
+    }
+    NONE
+}
+
+// A blank, a tab, a comma or a carriage return.
+fn is_free(c: u8) -> bool
+    ensures { λ r. ⌜ r ≡ isFree c ⌝ }
+{
+    if c == b' ' {
+        return true;
+    }
+    if c == b'\t' {
+        return true;
+    }
+    if c == b',' {
+        return true;
+    }
+    c == b'\r'
+}
+
+// The state after a character that ended no byte.
+fn passed(comment: bool, high: u8) -> State
+    ensures { λ r. ⌜ r ≡ passedOf comment high ⌝ }
+{
+    State {
+        comment,
+        high,
+        made: false,
+        value: 0,
+        bad: false,
+    }
+}
+
+// The state after a character.
+fn step(s: State, c: u8) -> State
+    requires { ⌜ s .high ≤ 16 ⌝ }
+    ensures { λ r. ⌜ (r ≡ stepOf s c) × (r .high ≤ 16) ⌝ }
+{
+    if c == b'\n' {
+        return passed(false, s.high);
+    }
+    if s.comment {
+        return passed(true, s.high);
+    }
+    if c == b'#' {
+        return passed(true, s.high);
+    }
+    if is_free(c) {
+        return passed(false, s.high);
+    }
+    let d = digit(c);
+    if d == NONE {
+        return State {
+            comment: false,
+            high: s.high,
+            made: false,
+            value: 0,
+            bad: true,
+        };
+    }
+    if s.high == NONE {
+        return passed(false, d);
+    }
+    State {
+        comment: false,
+        high: NONE,
+        made: true,
+        value: s.high * 16 + d,
+        bad: false,
+    }
+}
+
+// The first fault of a text.
+fn find_fault(text: &[u8]) -> Fault
+    ensures { λ r. ⌜ (r ≡ faultOf (now (text .entry))) × (faultAt r ≤ length (now (text .entry))) ⌝ }
+{
+    let mut state = State::START;
+    let mut i: usize = 0;
+    while i < text.len() {
+        let next = step(state, text[i]);
+        if next.bad {
+            return Fault::NoDigit(i);
+        }
+        state = next;
+        i += 1;
+    }
+    if state.high == NONE {
+        return Fault::None;
+    }
+    Fault::NoSecond
+}
+
+// A count, and one more where the state has a byte.
+fn count_after(count: usize, state: State) -> usize
+    requires { ⌜ count ≤ mostText ⌝ }
+    ensures { λ r. ⌜ (r ≡ count + length (madeOf state)) × (r ≤ count + 1) ⌝ }
+{
+    if state.made {
+        return count + 1;
+    }
+    count
+}
+
+// The number of bytes of a text.
+fn count_bytes(text: &[u8]) -> usize
+    requires { ⌜ length (now text) ≤ mostText ⌝ }
+    ensures { λ r. ⌜ r ≡ length (bytesOf (now (text .entry))) ⌝ }
+{
+    let mut state = State::START;
+    let mut count: usize = 0;
+    let mut i: usize = 0;
+    while i < text.len() {
+        state = step(state, text[i]);
+        count = count_after(count, state);
+        i += 1;
+    }
+    count
+}
+
+// The byte that the state has, if it has one, at an index; the index after it.
+fn put_made(out: &mut [u8], at: usize, state: State) -> usize
+    requires { ⌜ at + length (madeOf state) ≤ length (now out) ⌝ }
+    ensures { λ r. ⌜ Stored (madeOf state) (now (out .entry)) at (now (out .exit)) r ⌝ }
+{
+    if state.made {
+        out[at] = state.value;
+        return at + 1;
+    }
+    at
+}
+
+// The bytes of a text, from the buffer's start on; the index after them.
+fn put_bytes(text: &[u8], out: &mut [u8]) -> usize
+    requires { ⌜ length (bytesOf (now text)) ≤ length (now out) ⌝ }
+    ensures { λ r. ⌜ Stored (bytesOf (now (text .entry))) (now (out .entry)) 0 (now (out .exit)) r ⌝ }
+{
+    let mut state = State::START;
+    let mut end: usize = 0;
+    let mut i: usize = 0;
+    while i < text.len() {
+        state = step(state, text[i]);
+        end = put_made(out, end, state);
+        i += 1;
+    }
+    end
+}
+
+// The spot after a character at a spot.
+fn spot_past(spot: Spot, c: u8) -> Spot
+    requires { ⌜ (spot .line ≤ mostText) × (spot .column ≤ mostText) ⌝ }
+    ensures { λ r. ⌜ (r ≡ spotPast spot c) × (r .line ≤ spot .line + 1) × (r .column ≤ spot .column + 1) ⌝ }
+{
+    if c == b'\n' {
+        return Spot {
+            line: spot.line + 1,
+            column: 1,
+        };
+    }
+    Spot {
+        line: spot.line,
+        column: spot.column + 1,
+    }
+}
+
+// The line and the column right after a text.
+fn spot_after(text: &[u8]) -> Spot
+    requires { ⌜ length (now text) ≤ mostText ⌝ }
+    ensures { λ r. ⌜ r ≡ spotOf (now (text .entry)) ⌝ }
+{
+    let mut spot = Spot { line: 1, column: 1 };
+    let mut i: usize = 0;
+    while i < text.len() {
+        spot = spot_past(spot, text[i]);
+        i += 1;
+    }
+    spot
+}
+
+// The bytes of a text that has no fault.
+fn store(text: &[u8], out: &mut [u8]) -> Parsed
+    requires { ⌜ length (now text) ≤ mostText ⌝ }
+    ensures { λ r. ⌜ (r ≡ storedOf (now (text .entry)) (length (now (out .entry)))) × (now (out .exit) ≡ storedTo (now (text .entry)) (now (out .entry))) ⌝ }
+{
+    if out.len() < count_bytes(text) {
+        return Parsed::TooShort;
+    }
+    Parsed::Length(put_bytes(text, out))
+}
+
+// The bytes of a text, stored from the buffer's start on, and how many they are; or what is wrong, and the buffer as it was.
+pub fn parse(text: &[u8], out: &mut [u8]) -> Parsed
+    ensures { λ r. ⌜ (r ≡ parsedOf (now (text .entry)) (length (now (out .entry)))) × (now (out .exit) ≡ leftOf (now (text .entry)) (now (out .entry))) ⌝ }
+{
+    if MOST_TEXT < text.len() {
+        return Parsed::TooLong;
+    }
+    let fault = find_fault(text);
+    match fault {
+        Fault::NoDigit(at) => Parsed::NoDigit(spot_after(&text[..at])),
+        Fault::NoSecond => Parsed::NoSecond(spot_after(text)),
+        Fault::None => store(text, out),
+    }
+}
