@@ -3,21 +3,14 @@ use Prim.Native.Nat.{ℕ, _-_}
 use mathlib.Core.Bool.{cond}
 use mathlib.Core.List.{List}
 use lib.Dec.{leb, ltb}
-use Rattle.line.specs.Line.{unopened}
 use Rattle.event.specs.ReadWrite.{readAt}
 use Rattle.event.specs.declared.Reading.{Reading}
-use Rattle.steps.specs.Meets.{stateOf}
-use Rattle.steps.specs.State.{State}
 use Rattle.print.specs.declared.Printed.{Printed}
 use Rattle.run.specs.Runs.{mostText}
 
 -- the greatest number of 64 bits, which is no length
 abbrev pub noLength : ℕ
 noLength = 18446744073709551615
-
--- an unopened line over a lent book
-abbrev pub fresh : List ℕ → State
-fresh book = stateOf unopened book
 
 abbrev pub lengthOf : Printed → ℕ
 lengthOf (Printed.Length n) = n

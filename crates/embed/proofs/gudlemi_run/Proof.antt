@@ -1,20 +1,10 @@
 -- `gudlemi_run` meets its contract: it is the run from an unopened line.
-use Prim.Native.Nat.{ℕ}
-use mathlib.Core.Path.{_≡_, sym, ap, _∙_, subst}
-use mathlib.Core.List.{List}
-use Rattle.line.specs.declared.Line.{Line}
-use Rattle.steps.specs.Meets.{stateOf}
-use Rattle.line.specs.Line.{unopened}
-use Rattle.run.specs.Runs.{RunMeets}
-use Rattle.run.specs.declared.RunOutcome.{RunOutcome}
-use Rattle.embed.specs.Embedded.{fresh, lengthOf}
+use mathlib.Core.Path.{_≡_, sym, ap, _∙_}
+use Rattle.embed.specs.Embedded.{lengthOf}
+use Rattle.whole_sheet.proofs.Fresh.{from-unopened}
 use borrow.Author.Needs.{needs}
 use Rattle.embed.proofs.gudlemi_run.Statement.{statement}
 use Rattle.embed.proofs.gudlemi_run.Tie as tie
-
--- the run from a line that is the unopened one
-from-unopened : (l : Line) (book sheet text : List ℕ) (o : RunOutcome) (book′ text′ : List ℕ) → l ≡ unopened → RunMeets (stateOf l book) sheet text o book′ text′ → RunMeets (fresh book) sheet text o book′ text′
-from-unopened l book sheet text o book′ text′ e m = subst (λ (k : Line). RunMeets (stateOf k book) sheet text o book′ text′) e m
 
 unopened-requires : tie.Need-unopened-requires
 unopened-requires c κs = search needs

@@ -7,13 +7,10 @@ use lib.Dec.{leb, ltb}
 use lib.ListN.{length}
 use borrow.Author.Tests.{le-leb, le-ltb, lt-ltb, ltb-false}
 use Rattle.lists.proofs.Tests.{by-test}
-use Rattle.line.specs.declared.Line.{Line}
-use Rattle.line.specs.Line.{unopened}
-use Rattle.steps.specs.Meets.{stateOf}
 use Rattle.print.specs.declared.Printed.{Printed}
-use Rattle.run.specs.Runs.{RunMeets, textFits}
-use Rattle.run.specs.declared.RunOutcome.{RunOutcome}
-use Rattle.whole_sheet.specs.Whole.{fresh, tooLongPrinted}
+use Rattle.run.specs.Runs.{textFits}
+use Rattle.whole_sheet.specs.Whole.{tooLongPrinted}
+use Rattle.whole_sheet.proofs.Fresh.{from-unopened}
 use borrow.Author.Needs.{needs}
 use Rattle.whole_sheet.proofs.print_sheet.Statement.{statement}
 use Rattle.whole_sheet.proofs.print_sheet.Tie as tie
@@ -21,10 +18,6 @@ use Rattle.whole_sheet.proofs.print_sheet.Tie as tie
 short-fits : (out : List ℕ) → textFits (tooLongPrinted out) (length out) ≡ true
 short-fits out =
     by-test (ltb (length out) 15) (λ e. rw e) (λ e. rw e (le-leb 15 (length out) (ltb-false (length out) 15 e)))
-
--- the run from a line that is the unopened one
-from-unopened : (l : Line) (book sheet text : List ℕ) (o : RunOutcome) (book′ text′ : List ℕ) → l ≡ unopened → RunMeets (stateOf l book) sheet text o book′ text′ → RunMeets (fresh book) sheet text o book′ text′
-from-unopened l book sheet text o book′ text′ e m = subst (λ (k : Line). RunMeets (stateOf k book) sheet text o book′ text′) e m
 
 print-too-long-requires : tie.Need-print-too-long-requires
 print-too-long-requires c κs = search needs
