@@ -1,76 +1,16 @@
-// The entries: a function for each call, one that takes an event, and one that takes a kind and body bytes. None requires anything.
+// The twelve calls, a function for each: it makes the event and calls `event_calls::call_event`. None requires anything.
 // A call's tests and what it does stand in `turns` (02, 03, 04, 09), `records` (05 to 08), `ordered` (0A) and `setup` (01, 0B, 0C).
-ghost use mathlib.Core.Bool.{true};
 ghost use mathlib.Core.Path.{_≡_};
-ghost use lib.ListN.{length};
 ghost use Rattle.view.specs.View.{place};
-ghost use Rattle.line.specs.Sound.{sound};
 ghost use Rattle.event.specs.declared.Event.{Event};
-ghost use Rattle.lane_calls.specs.Decided.{scopeOf};
 ghost use Rattle.steps.specs.Meets.{Meets, stateOf};
-ghost use Rattle.steps.specs.Step.{callBytes, callEvent};
-ghost use Rattle.calls.specs.Refused.{refusedBytes};
-use changes::apply;
-use changes::see;
+ghost use Rattle.steps.specs.Step.{callEvent};
 use event::Blocks;
 use event::Event;
-use event::Reading;
-use lane_calls::Scope;
-use lane_calls::decide;
-use lane_calls::scope_of;
+use event_calls::call_event;
 use line::Line;
-use line_calls::call_line;
-use refusals::refuse;
-use soundness::is_sound;
 use steps::Outcome;
 use view::Place;
-
-// The call of a lane on a sound line: what it sees, what it changes, and the change applied.
-fn call_lane(line: Line, book: &mut [u8], lane: u8, event: Event) -> Outcome
-    requires { ⌜ (sound line (length (now book)) ≡ true) × (scopeOf event ≡ Scope.Lane lane) ⌝ }
-    ensures { λ r. ⌜ Meets (callEvent (stateOf line (now (book .entry))) event) r (now (book .exit)) ⌝ }
-{
-    let seen = see(line, lane);
-    let view = line.view;
-    let flag = line.flag;
-    let change = decide(seen, view, &flag, book, event);
-    apply(line, lane, change)
-}
-
-// A call given as an event; an event of an unlisted kind is refused with 2.
-pub fn call_event(line: Line, book: &mut [u8], event: Event) -> Outcome
-    ensures { λ r. ⌜ Meets (callEvent (stateOf line (now (book .entry))) event) r (now (book .exit)) ⌝ }
-{
-    if !is_sound(line, book.len()) {
-        return refuse(line, 1);
-    }
-    let scope = scope_of(event);
-    match scope {
-        Scope::Lane(lane) => call_lane(line, book, lane, event),
-        Scope::Line => call_line(line, book, event),
-    }
-}
-
-// A call that has no event: refused with 1 on an unsound line, and else with the number of what is wrong with its bytes.
-fn refuse_bytes(line: Line, book: &[u8], number: u8) -> Outcome
-    ensures { λ r. ⌜ r ≡ refusedBytes line (length (now (book .entry))) number ⌝ }
-{
-    if !is_sound(line, book.len()) {
-        return refuse(line, 1);
-    }
-    refuse(line, number)
-}
-
-// A call given as a kind and body bytes; bytes past the body are not looked at.
-pub fn call_bytes(line: Line, book: &mut [u8], kind: u8, body: &[u8]) -> Outcome
-    ensures { λ r. ⌜ Meets (callBytes (stateOf line (now (book .entry))) kind (now (body .entry))) r (now (book .exit)) ⌝ }
-{
-    match decode::read_body(kind, body, 0) {
-        Reading::Event { event, next: _ } => call_event(line, book, event),
-        Reading::End => refuse_bytes(line, book, 2),
-        Reading::Refused(number) => refuse_bytes(line, book, number),
-    }
-}
 
 // 01: opens the line and zeroes the book's capacity bytes.
 pub fn open(line: Line, book: &mut [u8], lanes: u8, capacity: u32) -> Outcome

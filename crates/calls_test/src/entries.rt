@@ -38,14 +38,14 @@ fn call(line: Line, book: &mut [u8], event: Event) -> Outcome {
             blocks,
         } => calls::set_view(line, book, displacement, extent, used, blocks),
         Event::Seek { whence, offset } => calls::seek(line, book, whence, offset),
-        Event::Unlisted => calls::call_event(line, book, Event::Unlisted),
+        Event::Unlisted => event_calls::call_event(line, book, Event::Unlisted),
     }
 }
 
 // A call by its entry, or as a kind and body bytes.
 fn answer(as_bytes: bool, line: Line, book: &mut [u8], kind: u8, body: &[u8]) -> Outcome {
     if as_bytes {
-        return calls::call_bytes(line, book, kind, body);
+        return event_calls::call_bytes(line, book, kind, body);
     }
     call(line, book, event_of(kind, body))
 }

@@ -2,8 +2,8 @@
 use mathlib.Core.Path.{sym, _∙_}
 use borrow.Author.Needs.{needs}
 use borrow.Author.Tests.{not-false, not-true}
-use Rattle.calls.proofs.refuse_bytes.Statement.{statement}
-use Rattle.calls.proofs.refuse_bytes.Tie as tie
+use Rattle.event_calls.proofs.refuse_bytes.Statement.{statement}
+use Rattle.event_calls.proofs.refuse_bytes.Tie as tie
 
 is-sound-requires : tie.Need-is-sound-requires
 is-sound-requires c κs = search needs

@@ -10,10 +10,10 @@ use Rattle.changes.proofs.Within.{within-of}
 use Rattle.lane_calls.specs.Decided.{bookDecided, decided}
 use Rattle.lane_calls.proofs.Steps.{decided-regular, decided-step}
 use Rattle.refusals.proofs.Shape.{shape-of}
-use Rattle.calls.proofs.Changed.{meets-changed}
+use Rattle.event_calls.proofs.Changed.{meets-changed}
 use borrow.Author.Needs.{needs}
-use Rattle.calls.proofs.call_lane.Statement.{statement}
-use Rattle.calls.proofs.call_lane.Tie as tie
+use Rattle.event_calls.proofs.call_lane.Statement.{statement}
+use Rattle.event_calls.proofs.call_lane.Tie as tie
 
 abbrev start : tie.After-see → tie.Start
 start c = c .before .before

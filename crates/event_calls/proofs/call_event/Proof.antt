@@ -2,10 +2,10 @@
 use mathlib.Core.Path.{sym, _∙_}
 use borrow.Author.Tests.{not-false, not-true}
 use Rattle.event.specs.Event.{given}
-use Rattle.calls.proofs.Unsound.{unsound}
+use Rattle.event_calls.proofs.Unsound.{unsound}
 use borrow.Author.Needs.{needs}
-use Rattle.calls.proofs.call_event.Statement.{statement}
-use Rattle.calls.proofs.call_event.Tie as tie
+use Rattle.event_calls.proofs.call_event.Statement.{statement}
+use Rattle.event_calls.proofs.call_event.Tie as tie
 
 is-sound-requires : tie.Need-is-sound-requires
 is-sound-requires c κs = search needs

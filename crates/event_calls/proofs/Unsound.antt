@@ -18,7 +18,7 @@ use Rattle.steps.specs.Step.{callEvent, refuse, stepBy}
 use Rattle.steps.proofs.Chains.{cut-chain, unlisted-chain, whenSound}
 use Rattle.steps.specs.declared.Outcome.{Outcome}
 use Rattle.refusals.specs.Refused.{refused}
-use Rattle.calls.specs.Refused.{refusedBytes}
+use Rattle.event_calls.specs.Refused.{refusedBytes}
 use Rattle.refusals.proofs.First.{meets-refused}
 
 unsound-step : (l : Line) (book : List ℕ) (c : Call) → sound l (length book) ≡ false → stepBy nextLane (stateOf l book) c ≡ refuse 1 (stateOf l book)

@@ -4,9 +4,9 @@ use mathlib.Core.Path.{sym, _∙_}
 use borrow.Author.Needs.{needs}
 use Rattle.event.specs.Event.{bodyLength, callOf}
 use Rattle.decode.specs.Body.{bodyAt}
-use Rattle.calls.proofs.Unsound.{event-call, never-end, refused-call}
-use Rattle.calls.proofs.call_bytes.Statement.{statement}
-use Rattle.calls.proofs.call_bytes.Tie as tie
+use Rattle.event_calls.proofs.Unsound.{event-call, never-end, refused-call}
+use Rattle.event_calls.proofs.call_bytes.Statement.{statement}
+use Rattle.event_calls.proofs.call_bytes.Tie as tie
 
 read-body-requires : tie.Need-read-body-requires
 read-body-requires c κs = search needs

@@ -1,3 +1,0 @@
--- The laws behind the entries.
-pub mod Unsound
-pub mod Changed

@@ -1,0 +1,3 @@
+-- The laws behind a call of an event.
+pub mod Unsound
+pub mod Changed
