@@ -1,4 +1,3 @@
 -- The proofs of the claims.
 pub mod ExampleSheet
-pub mod Edges
 pub mod Trials

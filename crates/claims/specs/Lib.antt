@@ -1,4 +1,3 @@
 -- The claims about the definitions.
 pub mod ExampleSheet
-pub mod Edges
 pub mod Trials

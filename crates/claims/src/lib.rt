@@ -1,1 +1,1 @@
-// What comes out of the definitions by computation: the edges of document 01, its example sheet, trials of demand 3; no functions.
+// What comes out of the definitions by computation: the example sheet of document 01, trials of demand 3; no functions.

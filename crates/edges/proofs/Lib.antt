@@ -1,0 +1,2 @@
+-- The proofs of the edges.
+pub mod Edges

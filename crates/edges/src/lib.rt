@@ -1,0 +1,1 @@
+// What the definitions give at the edges of document 01, proved; no functions.
