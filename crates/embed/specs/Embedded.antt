@@ -6,7 +6,7 @@ use lib.Dec.{leb, ltb}
 use Rattle.event.specs.ReadWrite.{readAt}
 use Rattle.event.specs.declared.Reading.{Reading}
 use Rattle.print.specs.declared.Printed.{Printed}
-use Rattle.run.specs.Runs.{mostText}
+use Rattle.run_text.specs.RunText.{mostText}
 
 -- the greatest number of 64 bits, which is no length
 abbrev pub noLength : ℕ

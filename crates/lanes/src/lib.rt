@@ -1,4 +1,3 @@
-// Tests and numbers of a lane's phase, and of all lanes together.
-pub mod phases;
+// Tests and numbers of all lanes together.
 pub mod rules;
 pub mod tallies;

@@ -6,7 +6,6 @@ ghost use Rattle.lists.specs.Lists.{all};
 ghost use Rattle.line.specs.Line.{on, placeIn};
 ghost use Rattle.line.specs.Sound.{regionEnd, regionOk, valueOk};
 ghost use Rattle.lanes.specs.Rules.{ruleOf};
-use crate::phases;
 use line::Line;
 use line::MOST_LANES;
 use line::Phase;
@@ -24,7 +23,7 @@ pub enum Rule {
 pub fn region_start(x: Phase) -> u64
     ensures { λ r. ⌜ r ≡ placeIn x .0 ⌝ }
 {
-    let place = phases::place_in(x);
+    let place = lane_phases::place_in(x);
     place.0 as u64
 }
 
@@ -32,8 +31,8 @@ pub fn region_start(x: Phase) -> u64
 pub fn region_end(x: Phase) -> u64
     ensures { λ r. ⌜ r ≡ regionEnd x ⌝ }
 {
-    let place = phases::place_in(x);
-    let left = phases::left_in(x);
+    let place = lane_phases::place_in(x);
+    let left = lane_phases::left_in(x);
     place.0 as u64 + left as u64
 }
 
@@ -41,10 +40,10 @@ pub fn region_end(x: Phase) -> u64
 fn value_ok(pointer: Place, x: Phase) -> bool
     ensures { λ r. ⌜ r ≡ valueOk pointer x ⌝ }
 {
-    if !phases::has_turn(x) {
+    if !lane_phases::has_turn(x) {
         return true;
     }
-    let value = phases::place_in(x);
+    let value = lane_phases::place_in(x);
     value.0 == pointer.0
 }
 
@@ -54,8 +53,8 @@ fn region_ok(line: Line, x: Phase) -> bool
 {
     let pointer = line.pointer;
     let view = line.view;
-    let left = phases::left_in(x);
-    if !phases::is_busy(x) {
+    let left = lane_phases::left_in(x);
+    if !lane_phases::is_busy(x) {
         return true;
     }
     if left < 1 {
@@ -64,10 +63,10 @@ fn region_ok(line: Line, x: Phase) -> bool
     if (pointer.0 as u64) < region_end(x) {
         return false;
     }
-    if !phases::is_writing(x) {
+    if !lane_phases::is_writing(x) {
         return true;
     }
-    view.fits(line.capacity, phases::place_in(x), left as u32)
+    view.fits(line.capacity, lane_phases::place_in(x), left as u32)
 }
 
 // Whether a lane meets a rule.
@@ -76,8 +75,8 @@ fn meets(rule: Rule, line: Line, x: Phase) -> bool
 {
     let pointer = line.pointer;
     match rule {
-        Rule::Idle => phases::is_idle(x),
-        Rule::IdleOrGathered => phases::is_idle_or_gathered(x),
+        Rule::Idle => lane_phases::is_idle(x),
+        Rule::IdleOrGathered => lane_phases::is_idle_or_gathered(x),
         Rule::Value => value_ok(pointer, x),
         Rule::Region => region_ok(line, x),
     }

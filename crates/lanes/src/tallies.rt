@@ -7,7 +7,6 @@ ghost use Rattle.lists.specs.Lists.{all, any, bit, pairwise, sameNumbers};
 ghost use Rattle.line.specs.Line.{flagFor, isGathered, on};
 ghost use Rattle.line.specs.Sound.{apart, apartLanes};
 ghost use Rattle.lanes.specs.Rules.{tallyOf};
-use crate::phases;
 use crate::rules;
 use line::Lane;
 use line::MOST_LANES;
@@ -41,10 +40,10 @@ pub fn tally_of(lane: [Lane; MOST_LANES]) -> Tally
     while i < MOST_LANES {
         let l = lane[i];
         let x = l.phase;
-        flagged += one(1 == phases::flag_for(x));
-        turns += one(phases::has_turn(x));
-        gathered += one(phases::is_gathered(x));
-        total += phases::count_in(x) as u32;
+        flagged += one(1 == lane_phases::flag_for(x));
+        turns += one(lane_phases::has_turn(x));
+        gathered += one(lane_phases::is_gathered(x));
+        total += lane_phases::count_in(x) as u32;
         i += 1;
     }
     Tally {
@@ -63,7 +62,7 @@ pub fn any_gathered(lane: [Lane; MOST_LANES]) -> bool
     while i < MOST_LANES {
         let l = lane[i];
         let phase = l.phase;
-        if phases::is_gathered(phase) {
+        if lane_phases::is_gathered(phase) {
             return true;
         }
         i += 1;
@@ -79,7 +78,7 @@ pub fn flags_ok(flag: [u8; MOST_LANES], lane: [Lane; MOST_LANES]) -> bool
     while i < MOST_LANES {
         let l = lane[i];
         let x = l.phase;
-        if flag[i] != phases::flag_for(x) {
+        if flag[i] != lane_phases::flag_for(x) {
             return false;
         }
         i += 1;
@@ -91,10 +90,10 @@ pub fn flags_ok(flag: [u8; MOST_LANES], lane: [Lane; MOST_LANES]) -> bool
 fn are_apart(x: Phase, y: Phase) -> bool
     ensures { λ r. ⌜ r ≡ apart x y ⌝ }
 {
-    if !phases::is_busy(x) {
+    if !lane_phases::is_busy(x) {
         return true;
     }
-    if !phases::is_busy(y) {
+    if !lane_phases::is_busy(y) {
         return true;
     }
     if rules::region_end(x) <= rules::region_start(y) {
@@ -107,7 +106,7 @@ fn are_apart(x: Phase, y: Phase) -> bool
 fn apart_from(x: Phase, lane: [Lane; MOST_LANES], start: usize) -> bool
     ensures { λ r. ⌜ r ≡ all (on (apart x)) (drop start lane) ⌝ }
 {
-    if !phases::is_busy(x) {
+    if !lane_phases::is_busy(x) {
         return true;
     }
     let mut i = start;

@@ -11,7 +11,6 @@ ghost use Rattle.steps.specs.Meets.{Meets, stateOf};
 ghost use Rattle.steps.specs.Step.{callEvent};
 ghost use Rattle.ordered.specs.Settled.{settled};
 use changes::phases::to_write;
-use lanes::phases;
 use lanes::rules;
 use lanes::rules::Rule;
 use lanes::tallies::tally_of;
@@ -53,7 +52,7 @@ fn start_all(lanes: [Lane; MOST_LANES], pointer: u32) -> [Lane; MOST_LANES]
         out[r] = Lane {
             phase: start_at(phase, at),
         };
-        at += phases::count_in(phase) as u32;
+        at += lane_phases::count_in(phase) as u32;
         r += 1;
     }
     out
@@ -101,7 +100,7 @@ pub fn enter(line: Line, book: &[u8], lane: u8, count: u16) -> Outcome
     let mut lanes = line.lane;
     let own = lanes[i];
     let phase = own.phase;
-    if !phases::is_idle(phase) {
+    if !lane_phases::is_idle(phase) {
         return refuse(line, 13);
     }
     lanes[i] = Lane {

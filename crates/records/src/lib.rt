@@ -11,7 +11,6 @@ use changes::Seen;
 use changes::phases::to_read;
 use changes::phases::to_write;
 use changes::refuse;
-use lanes::phases;
 use line::Phase;
 use steps::Answer;
 use view::Place;
@@ -147,7 +146,7 @@ pub fn put(seen: Seen, view: View, lane: u8, place: Place) -> Change
         return refuse(seen, 8);
     }
     let phase = seen.phase;
-    if !phases::holds_whole(phase) {
+    if !lane_phases::holds_whole(phase) {
         return refuse(seen, 13);
     }
     if !view.fits(seen.capacity, place, 1) {
@@ -168,7 +167,7 @@ pub fn look(seen: Seen, view: View, book: &[u8], lane: u8, place: Place) -> Chan
         return refuse(seen, 8);
     }
     let phase = seen.phase;
-    if !phases::holds_whole(phase) {
+    if !lane_phases::holds_whole(phase) {
         return refuse(seen, 13);
     }
     find_at(seen, view, book, place, phase)

@@ -40,7 +40,8 @@ use Rattle.digits.specs.Stored.{Stored}
 use Rattle.digits.proofs.Stores.{and-then}
 use Rattle.print.specs.Printing.{mostLine}
 use Rattle.print.specs.declared.Printed.{Printed}
-use Rattle.run.specs.Runs.{RunSound, lastLines}
+use Rattle.run_text.specs.RunText.{lastLines}
+use Rattle.run.specs.Runs.{RunSound}
 use Rattle.run.proofs.Last.{line-first, zero-add}
 
 -- the text of the answers, numbered from k on, and of what a run leaves

@@ -19,16 +19,9 @@ use Rattle.sheet.specs.Print.{answerLine, answerLines, endLine, endLineOf}
 use Rattle.sheet.specs.Run.{run}
 use Rattle.digits.specs.Stored.{Stored}
 use Rattle.print.specs.declared.Printed.{Printed}
-use Rattle.run.specs.Runs.{RunMeets, RunSound, hasRoom, lastLines}
+use Rattle.run_text.specs.RunText.{lastLines}
+use Rattle.run.specs.Runs.{RunMeets, RunSound, hasRoom}
 use Rattle.run.specs.declared.RunOutcome.{RunOutcome}
-
-abbrev but-refused : List ℕ
-but-refused = 0 ∷ 1 ∷ []
-
-pub no-refusal : (k : ℕ) (r : Reading) (l : Line) → OneOf but-refused (tagOf the-type r) → lastLines k r l ≡ endLineOf (l .size) (l .pointer)
-no-refusal k (Reading.Event e next) l t = refl
-no-refusal k Reading.End l t = refl
-no-refusal k (Reading.Refused n) l t = absurd (miss but-refused 2 tt t)
 
 -- ---- the run as a whole
 -- where there is no room for the text all is as it was

@@ -1,24 +1,19 @@
 -- What the run of a sheet answers and leaves: the line, the book, and the printed lines in a lent buffer.
-use Prim.Native.Nat.{ℕ, _+_, _*_}
+use Prim.Native.Nat.{ℕ}
 use mathlib.Core.Bool.{Bool, true, cond}
-use mathlib.Core.List.{List, _++_}
+use mathlib.Core.List.{List}
 use mathlib.Core.Path.{_≡_}
 use lib.Dec.{leb}
 use lib.ListN.{length}
 use lib.Seq.{sets}
-use Rattle.line.specs.declared.Line.{Line}
-use Rattle.event.specs.declared.Reading.{Reading}
 use Rattle.steps.specs.State.{State}
-use Rattle.steps.specs.declared.Answer.{Answer}
-use Rattle.sheet.specs.Print.{answerLine, endLineOf, printed}
+use Rattle.sheet.specs.Print.{printed}
 use Rattle.sheet.specs.Run.{run}
 use Rattle.print.specs.declared.Printed.{Printed}
+use Rattle.run_text.specs.RunText.{mostText}
 use Rattle.run.specs.declared.RunOutcome.{RunOutcome}
 
--- no text is longer than this, for a sheet of n bytes: an event has two bytes at least and a line 56 at most; the last two lines are counted apart
-abbrev pub mostText : ℕ → ℕ
-mostText n = 28 * n + 112
-
+-- whether the buffer takes the text of any sheet of this length
 abbrev pub hasRoom : List ℕ → List ℕ → Bool
 hasRoom sheet out = leb (mostText (length sheet)) (length out)
 
@@ -51,9 +46,3 @@ pub record RunSound (x : State) (sheet out : List ℕ) (r : RunOutcome) (book-le
   pub book : book-left ≡ run x sheet .after .book
   pub text : out-left ≡ sets out 0 (printed (run x sheet))
   pub fits : textFits (r .printed) (length out) ≡ true
-
--- the last lines: of bytes that are no event their refusal, numbered k, and then `end`
-abbrev pub lastLines : ℕ → Reading → Line → List ℕ
-lastLines k (Reading.Event e next) l = endLineOf (l .size) (l .pointer)
-lastLines k Reading.End l = endLineOf (l .size) (l .pointer)
-lastLines k (Reading.Refused n) l = answerLine k (Answer.Refused n) ++ endLineOf (l .size) (l .pointer)

@@ -1,13 +1,12 @@
 // The run of a sheet: its events one after the other on one line and one lent book, with the printed lines in a lent buffer.
-ghost use Prim.Native.Nat.{_+_, _*_, _≤_};
+ghost use Prim.Native.Nat.{_≤_};
 ghost use mathlib.Core.Bool.{true};
 ghost use mathlib.Core.Path.{_≡_};
-ghost use lib.Dec.{leb};
 ghost use lib.ListN.{length};
 ghost use Rattle.line.specs.Sound.{sound};
 ghost use Rattle.steps.specs.Meets.{stateOf};
-ghost use Rattle.digits.specs.Stored.{Stored};
-ghost use Rattle.run.specs.Runs.{RunMeets, RunSound, lastLines, mostText};
+ghost use Rattle.run_text.specs.RunText.{mostText};
+ghost use Rattle.run.specs.Runs.{RunMeets, RunSound};
 use changes::Seen;
 use changes::entry_of;
 use changes::phases::wake_with;
@@ -21,39 +20,16 @@ use line::Line;
 use line_calls::call_line;
 use print::Printed;
 use print::put_answer;
-use print::put_end;
 use reader::event_at;
+use run_text::has_room;
+use run_text::put_last;
 use soundness::is_sound;
-use steps::Answer;
 use waitlist::Wakes;
 
 // What a run gives: the line as it leaves it, and the length of the text, or that the buffer lent for the text is too short.
 pub struct RunOutcome {
     pub line: Line,
     pub printed: Printed,
-}
-
-// Whether a buffer takes the text of any sheet of this length: 28 bytes for each byte of the sheet, and two lines more.
-fn has_room(sheet: usize, out: usize) -> bool
-    ensures { λ r. ⌜ r ≡ leb (mostText sheet) out ⌝ }
-{
-    if out < 112 {
-        return false;
-    }
-    sheet <= (out - 112) / 28
-}
-
-// The last lines: the refusal of bytes that are no event, where there is one, and `end` with the size and the pointer.
-fn put_last(line: Line, reading: Reading, out: &mut [u8], at: usize, number: u64) -> usize
-    requires { ⌜ at + 112 ≤ length (now out) ⌝ }
-    ensures { λ r. ⌜ Stored (lastLines number reading line) (now (out .entry)) at (now (out .exit)) r × (r ≤ at + 112) ⌝ }
-{
-    let pointer = line.pointer;
-    let Reading::Refused(refusal) = reading else {
-        return put_end(out, at, line.size, pointer);
-    };
-    let next = put_answer(out, at, number, Answer::Refused { number: refusal });
-    put_end(out, next, line.size, pointer)
 }
 
 // The run on a sound line, which stays in one local; a change of a lane is stored by its index.

@@ -9,7 +9,6 @@ use changes::phases::purpose_of;
 use changes::phases::to_read;
 use changes::phases::to_write;
 use changes::refuse;
-use lanes::phases;
 use line::Phase;
 use line::Purpose;
 use steps::Answer;
@@ -62,7 +61,7 @@ pub fn want(seen: Seen, flags: &[u8], lane: u8, purpose: u8) -> Change
         return refuse(seen, 12);
     }
     let phase = seen.phase;
-    if !phases::is_idle(phase) {
+    if !lane_phases::is_idle(phase) {
         return refuse(seen, 13);
     }
     raise(
@@ -205,7 +204,7 @@ pub fn free(seen: Seen, flags: &[u8], lane: u8) -> Change
         return refuse(seen, 8);
     }
     let phase = seen.phase;
-    if !phases::holds_whole(phase) {
+    if !lane_phases::holds_whole(phase) {
         return refuse(seen, 13);
     }
     let pointer = seen.pointer;

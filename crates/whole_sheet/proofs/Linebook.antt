@@ -13,7 +13,7 @@ use Rattle.sheet.specs.Print.{freshState, linebook, mostSheet, printed}
 use Rattle.sheet.specs.Run.{run}
 use Rattle.sheet.specs.Text.{ascii}
 use Rattle.print.specs.declared.Printed.{Printed}
-use Rattle.run.specs.Runs.{mostText}
+use Rattle.run_text.specs.RunText.{mostText}
 use Rattle.whole_sheet.specs.Whole.{sheetPrinted, textOf}
 
 pub record Prints (sheet out : List ℕ) : Type 0 where

@@ -6,7 +6,8 @@ use native.Mathlib.Omega.{arith}
 use borrow.Author.Tests.{leb-true, not-false, not-true}
 use lib.ListN.{length}
 use Rattle.steps.specs.Meets.{stateOf}
-use Rattle.run.specs.Runs.{hasRoom, mostText}
+use Rattle.run_text.specs.RunText.{mostText}
+use Rattle.run.specs.Runs.{hasRoom}
 use Rattle.run.proofs.Last.{no-room, unsound-run, with-room}
 use borrow.Author.Needs.{needs}
 use Rattle.run.proofs.run.Statement.{statement}

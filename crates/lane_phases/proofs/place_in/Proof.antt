@@ -1,7 +1,7 @@
 -- `place_in` meets its contract, phase by phase.
 use borrow.Author.Needs.{needs}
-use Rattle.lanes.proofs.phases.place_in.Statement.{statement}
-use Rattle.lanes.proofs.phases.place_in.Tie as tie
+use Rattle.lane_phases.proofs.place_in.Statement.{statement}
+use Rattle.lane_phases.proofs.place_in.Tie as tie
 
 enum-told : tie.Need-enum-told
 enum-told c = search needs

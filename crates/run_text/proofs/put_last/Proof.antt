@@ -1,10 +1,10 @@
 -- `put_last` meets its contract.
 use native.Mathlib.Omega.{arith}
 use Rattle.digits.proofs.Stores.{and-then}
-use Rattle.run.proofs.Last.{no-refusal}
+use Rattle.run_text.proofs.Last.{no-refusal}
 use borrow.Author.Needs.{needs}
-use Rattle.run.proofs.put_last.Statement.{statement}
-use Rattle.run.proofs.put_last.Tie as tie
+use Rattle.run_text.proofs.put_last.Statement.{statement}
+use Rattle.run_text.proofs.put_last.Tie as tie
 
 enum-known-reading : tie.Need-enum-known-reading
 enum-known-reading c = search needs

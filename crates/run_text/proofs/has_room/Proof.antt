@@ -6,9 +6,9 @@ use native.Mathlib.Omega.{arith}
 use lib.Dec.{leb}
 use borrow.Author.Tests.{le-leb, leb-false, leb-true, lt-leb}
 use Rattle.lists.proofs.Tests.{by-test}
-use Rattle.run.specs.Runs.{mostText}
-use Rattle.run.proofs.has_room.Statement.{statement}
-use Rattle.run.proofs.has_room.Tie as tie
+use Rattle.run_text.specs.RunText.{mostText}
+use Rattle.run_text.proofs.has_room.Statement.{statement}
+use Rattle.run_text.proofs.has_room.Tie as tie
 
 -- the quotient is at least n where the product fits
 quotient : (n m : ℕ) → 112 ≤ m → leb n ((m - 112) / 28) ≡ leb (mostText n) m

@@ -1,0 +1,2 @@
+-- The laws of the last lines.
+pub mod Last

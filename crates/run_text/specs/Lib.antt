@@ -1,0 +1,2 @@
+-- The text of a run.
+pub mod RunText

@@ -1,0 +1,35 @@
+// The text of a run: the room that it takes, and its last lines.
+ghost use Prim.Native.Nat.{_+_, _≤_};
+ghost use mathlib.Core.Path.{_≡_};
+ghost use lib.Dec.{leb};
+ghost use lib.ListN.{length};
+ghost use Rattle.digits.specs.Stored.{Stored};
+ghost use Rattle.run_text.specs.RunText.{lastLines, mostText};
+use event::Reading;
+use line::Line;
+use print::put_answer;
+use print::put_end;
+use steps::Answer;
+
+// Whether a buffer takes the text of any sheet of this length: 28 bytes for each byte of the sheet, and two lines more.
+pub fn has_room(sheet: usize, out: usize) -> bool
+    ensures { λ r. ⌜ r ≡ leb (mostText sheet) out ⌝ }
+{
+    if out < 112 {
+        return false;
+    }
+    sheet <= (out - 112) / 28
+}
+
+// The last lines: the refusal of bytes that are no event, where there is one, and `end` with the size and the pointer.
+pub fn put_last(line: Line, reading: Reading, out: &mut [u8], at: usize, number: u64) -> usize
+    requires { ⌜ at + 112 ≤ length (now out) ⌝ }
+    ensures { λ r. ⌜ Stored (lastLines number reading line) (now (out .entry)) at (now (out .exit)) r × (r ≤ at + 112) ⌝ }
+{
+    let pointer = line.pointer;
+    let Reading::Refused(refusal) = reading else {
+        return put_end(out, at, line.size, pointer);
+    };
+    let next = put_answer(out, at, number, Answer::Refused { number: refusal });
+    put_end(out, next, line.size, pointer)
+}
