@@ -32,8 +32,8 @@ fn wish() -> Option<Wish> {
 fn which(wish: &Wish, k: u64) -> String {
     let number = wish.skip + k;
     match &wish.seed {
-        Some(seed) => format!("sheet {number} (sheets {seed} 1 --skip {number})"),
-        None => format!("sheet {number} (of the seed you gave: sheets SEED 1 --skip {number})"),
+        Some(seed) => format!("sheet {number} (generate {seed} 1 --skip {number})"),
+        None => format!("sheet {number} (of the seed you gave: generate SEED 1 --skip {number})"),
     }
 }
 

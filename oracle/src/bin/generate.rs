@@ -1,4 +1,4 @@
-//! `sheets SEED COUNT [--skip K]`: sheets K, K + 1, .. of a seed, as a stream.
+//! `generate SEED COUNT [--skip K]`: sheets K, K + 1, .. of a seed, as a stream.
 //! `--raw` writes the bare bytes without lengths (for COUNT 1).
 
 use oracle_lib::make::sheet;
@@ -45,13 +45,13 @@ fn write_all(wish: &Wish) -> io::Result<()> {
 
 fn main() -> ExitCode {
     let Some(wish) = wish() else {
-        eprintln!("use: sheets SEED COUNT [--skip K] [--raw]");
+        eprintln!("use: generate SEED COUNT [--skip K] [--raw]");
         return ExitCode::from(2);
     };
     match write_all(&wish) {
         Ok(()) => ExitCode::SUCCESS,
         Err(error) => {
-            eprintln!("sheets: {error}");
+            eprintln!("generate: {error}");
             ExitCode::from(2)
         }
     }
