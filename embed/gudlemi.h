@@ -2,7 +2,8 @@
  *
  * A sheet is a row of bytes, event after event: one byte of kind, 01 to 0C, then the body of that kind. A book is the
  * lent bytes in which the lanes' records are written. Both are described in document 01. Each function is proved to
- * answer and to leave exactly what its definition in crates/embed/specs/Embedded.antt says.
+ * answer and to leave exactly what its definitions say: in crates/embed/specs/Embedded.antt, and of a run in
+ * crates/run/specs/Runs.antt (printedBy, leftBy, textIn) from the state of crates/whole_sheet/specs/Whole.antt (fresh).
  *
  * Make the library with `rt staticlib embed`, which writes target/staticlib/libembed.a, and link it:
  *
@@ -54,9 +55,9 @@ extern "C" {
  *
  * An empty sheet (sheet_length 0) prints `end 0 0` and leaves the book as it was.
  *
- * A short book: an opening whose capacity is above book_length is refused with 7, and so is every opening where the
- * book is empty (book_length 0). The run goes on; a later opening that fits is taken, and till then all other events
- * are refused with 4. 65,536 bytes are enough for every opening.
+ * A short book: an opening whose capacity is above book_length is refused with 7, or with 6 where its lanes are not
+ * 1 to 64 as well; so no opening is accepted where the book is empty (book_length 0). The run goes on; a later opening
+ * that fits is taken, and till then all other events are refused with 4. 65,536 bytes are enough for every opening.
  *
  * An accepted opening zeroes the first bytes of the book, as many as its capacity; the book need not be cleared
  * before. Bytes past the capacity are never altered, and a sheet with no accepted opening alters none.

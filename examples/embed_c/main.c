@@ -73,5 +73,7 @@ int main(int argc, char **argv)
     size_t sheet_length = read_sheet(argv[1]);
     print_events(sheet_length);
     print_run(argv[1], sheet_length);
+    if (fflush(stdout) != 0 || ferror(stdout))
+        stop("standard output", strerror(errno));
     return 0;
 }

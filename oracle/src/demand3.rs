@@ -80,7 +80,8 @@ pub fn check(sheet: &[u8], printed: &[u8], tally: &mut Tally) -> Result<(), Brea
             break;
         }
     }
-    at(None, watch.end(lines.next().unwrap_or("(no line)")))
+    at(None, watch.end(lines.next().unwrap_or("(no line)")))?;
+    at(None, lines.next().map_or(Ok(()), |line| Err(format!("a line after the end: `{line}`"))))
 }
 
 fn at(event: Option<usize>, said: Said) -> Result<(), Breach> {

@@ -46,7 +46,8 @@ pub enum EventAt {
 /// answer is their length.
 ///
 /// None where `text` is shorter than `text_bound` of the sheet's length: then nothing was run, and neither `book` nor
-/// `text` is altered. An opening with a capacity above the book's length is refused with 7, on an empty book each one.
+/// `text` is altered. An opening with a capacity above the book's length is refused, so that none is accepted on an empty
+/// book.
 pub fn run(sheet: &[u8], book: &mut [u8], text: &mut [u8]) -> Option<usize> {
     // SAFETY: the slices give pointers that are not null with their lengths, and by Rust's rules for references they
     // share no byte and nobody else touches them during the call. The library keeps none of the pointers.

@@ -40,7 +40,7 @@ fn print_events(out: &mut impl Write, sheet: &[u8]) -> io::Result<()> {
     }
 }
 
-/// Runs the sheet on an empty book, and prints the text.
+/// Runs the sheet on a book of 65,536 bytes, and prints the text.
 fn print_run(out: &mut impl Write, sheet: &[u8]) -> io::Result<()> {
     let mut book = vec![0; BOOK_LENGTH];
     let text =

@@ -1,5 +1,6 @@
 //! `each PROGRAM [--pieces N]`: runs a program once for each sheet of a stream on standard input, and writes a stream of what it printed.
-//! A stream is a row of byte strings, each preceded by its length as 4 bytes big-endian. With `--pieces N` a sheet is handed over N bytes at a time.
+//! A stream is a row of byte strings, each preceded by its length as 4 bytes big-endian. With `--pieces N` a sheet is handed over N bytes at a time, with a
+//! pause after each of the first eight.
 
 use std::io::{self, Read, Write};
 use std::process::{Command, ExitCode, Stdio};
