@@ -38,7 +38,7 @@ struct Wait {
 }
 
 /// What the lines so far tell. Nothing here looks at the oracle's own state.
-struct Watch<'a> {
+struct Checker<'a> {
     tally: &'a mut Tally,
     lanes: usize,
     waits: Vec<Option<Wait>>,
@@ -64,13 +64,13 @@ pub fn check(sheet: &[u8], printed: &[u8], tally: &mut Tally) -> Result<(), Brea
     }
     let text = String::from_utf8_lossy(printed);
     let mut lines = text.lines();
-    let mut watch = Watch::new(tally);
+    let mut checker = Checker::new(tally);
     let mut cursor = 0;
     let mut number = 0;
     while let Some(read) = read_event(sheet, &mut cursor) {
         let line = lines.next().unwrap_or("(no line)");
         let said = parse_line(number, line).and_then(|answer| match read {
-            Ok(event) => watch.step(&event, &answer),
+            Ok(event) => checker.step(&event, &answer),
             Err(_) if matches!(answer, Answer::Refused { .. }) => Ok(()),
             Err(_) => Err(format!("bytes that are no event are answered `{line}`")),
         });
@@ -80,7 +80,7 @@ pub fn check(sheet: &[u8], printed: &[u8], tally: &mut Tally) -> Result<(), Brea
             break;
         }
     }
-    at(None, watch.end(lines.next().unwrap_or("(no line)")))?;
+    at(None, checker.end(lines.next().unwrap_or("(no line)")))?;
     at(None, lines.next().map_or(Ok(()), |line| Err(format!("a line after the end: `{line}`"))))
 }
 
@@ -102,9 +102,9 @@ fn must(holds: bool, sentence: impl FnOnce() -> String) -> Said {
     }
 }
 
-impl<'a> Watch<'a> {
-    fn new(tally: &'a mut Tally) -> Watch<'a> {
-        Watch {
+impl<'a> Checker<'a> {
+    fn new(tally: &'a mut Tally) -> Checker<'a> {
+        Checker {
             tally,
             lanes: 0,
             waits: vec![None; MOST_LANES],

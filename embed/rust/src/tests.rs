@@ -103,6 +103,12 @@ fn empty_book_refuses_the_opening_with_7() {
 }
 
 #[test]
+fn empty_book_refuses_65_lanes_with_6() {
+    let text = run_to_string(&[1, 65, 0, 0, 0, 64], &mut []);
+    assert_eq!(text.as_deref(), Some("0 refused 6\nend 0 0\n"));
+}
+
+#[test]
 fn book_below_the_capacity_refuses_the_opening_with_7_and_stays() {
     let mut book = [0xEE; 63];
     let text = run_to_string(&EXAMPLE[..9], &mut book);

@@ -6,32 +6,32 @@ use oracle_lib::stream::{open_source, read_item};
 use std::io;
 use std::process::ExitCode;
 
-struct Wish {
+struct Arguments {
     files: Vec<String>,
     seed: Option<String>,
     skip: u64,
     any: bool,
 }
 
-fn wish() -> Option<Wish> {
-    let mut wish = Wish { files: Vec::new(), seed: None, skip: 0, any: false };
+fn arguments() -> Option<Arguments> {
+    let mut arguments = Arguments { files: Vec::new(), seed: None, skip: 0, any: false };
     let mut words = std::env::args().skip(1);
     while let Some(word) = words.next() {
         match word.as_str() {
-            "--seed" => wish.seed = Some(words.next()?),
-            "--skip" => wish.skip = words.next()?.parse().ok()?,
-            "--any" => wish.any = true,
-            _ => wish.files.push(word),
+            "--seed" => arguments.seed = Some(words.next()?),
+            "--skip" => arguments.skip = words.next()?.parse().ok()?,
+            "--any" => arguments.any = true,
+            _ => arguments.files.push(word),
         }
     }
-    let inputs = wish.files.iter().filter(|file| *file == "-").count();
-    (wish.files.len() == 3 && inputs <= 1).then_some(wish)
+    let inputs = arguments.files.iter().filter(|file| *file == "-").count();
+    (arguments.files.len() == 3 && inputs <= 1).then_some(arguments)
 }
 
 /// The sheet's number and the arguments that make it again.
-fn which(wish: &Wish, k: u64) -> String {
-    let number = wish.skip + k;
-    match &wish.seed {
+fn which(arguments: &Arguments, k: u64) -> String {
+    let number = arguments.skip + k;
+    match &arguments.seed {
         Some(seed) => format!("sheet {number} (generate {seed} 1 --skip {number})"),
         None => format!("sheet {number} (of the seed you gave: generate SEED 1 --skip {number})"),
     }
@@ -67,12 +67,12 @@ fn next(source: &mut impl io::Read, name: &str, which: &str) -> io::Result<Optio
 }
 
 /// Holds the streams together; the first fault as a sentence.
-fn hold(wish: &Wish, cover: &mut Cover) -> io::Result<Option<String>> {
-    let mut a = open_source(&wish.files[0])?;
-    let mut b = open_source(&wish.files[1])?;
-    let mut sheets = open_source(&wish.files[2])?;
+fn hold(arguments: &Arguments, cover: &mut Cover) -> io::Result<Option<String>> {
+    let mut a = open_source(&arguments.files[0])?;
+    let mut b = open_source(&arguments.files[1])?;
+    let mut sheets = open_source(&arguments.files[2])?;
     for k in 0.. {
-        let which = which(wish, k);
+        let which = which(arguments, k);
         let items = (next(&mut a, "A", &which)?, next(&mut b, "B", &which)?);
         let items = (items.0, items.1, next(&mut sheets, "the sheets", &which)?);
         let (Some(a), Some(b), Some(sheet)) = &items else {
@@ -94,12 +94,12 @@ fn hold(wish: &Wish, cover: &mut Cover) -> io::Result<Option<String>> {
 }
 
 fn main() -> ExitCode {
-    let Some(wish) = wish() else {
+    let Some(arguments) = arguments() else {
         eprintln!("use: compare A B SHEETS [--seed S] [--skip K] [--any]  (one may be -)");
         return ExitCode::from(2);
     };
     let mut cover = Cover::default();
-    match hold(&wish, &mut cover) {
+    match hold(&arguments, &mut cover) {
         Err(error) => {
             eprintln!("compare: {error}");
             return ExitCode::from(2);
@@ -111,7 +111,7 @@ fn main() -> ExitCode {
         Ok(None) => print!("{}", cover.table()),
     }
     let faults = cover.faults();
-    if wish.any || faults.is_empty() {
+    if arguments.any || faults.is_empty() {
         println!("no difference");
         return ExitCode::SUCCESS;
     }

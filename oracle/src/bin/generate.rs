@@ -6,14 +6,14 @@ use oracle_lib::stream::write_item;
 use std::io::{self, BufWriter, Write};
 use std::process::ExitCode;
 
-struct Wish {
+struct Arguments {
     seed: u64,
     count: u64,
     skip: u64,
     raw: bool,
 }
 
-fn wish() -> Option<Wish> {
+fn arguments() -> Option<Arguments> {
     let mut numbers = Vec::new();
     let (mut skip, mut raw) = (0, false);
     let mut words = std::env::args().skip(1);
@@ -25,16 +25,16 @@ fn wish() -> Option<Wish> {
         }
     }
     match numbers.as_slice() {
-        [seed, count] => Some(Wish { seed: *seed, count: *count, skip, raw }),
+        [seed, count] => Some(Arguments { seed: *seed, count: *count, skip, raw }),
         _ => None,
     }
 }
 
-fn write_all(wish: &Wish) -> io::Result<()> {
+fn write_all(arguments: &Arguments) -> io::Result<()> {
     let mut out = BufWriter::new(io::stdout().lock());
-    for k in wish.skip..wish.skip + wish.count {
-        let bytes = sheet(wish.seed, k);
-        if wish.raw {
+    for k in arguments.skip..arguments.skip + arguments.count {
+        let bytes = sheet(arguments.seed, k);
+        if arguments.raw {
             out.write_all(&bytes)?;
         } else {
             write_item(&mut out, &bytes)?;
@@ -44,11 +44,11 @@ fn write_all(wish: &Wish) -> io::Result<()> {
 }
 
 fn main() -> ExitCode {
-    let Some(wish) = wish() else {
+    let Some(arguments) = arguments() else {
         eprintln!("use: generate SEED COUNT [--skip K] [--raw]");
         return ExitCode::from(2);
     };
-    match write_all(&wish) {
+    match write_all(&arguments) {
         Ok(()) => ExitCode::SUCCESS,
         Err(error) => {
             eprintln!("generate: {error}");

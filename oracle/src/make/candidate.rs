@@ -11,7 +11,7 @@ const TRIES: usize = 24;
 
 impl Walk<'_> {
     /// An event that is to be refused with a number drawn from the table, if one is found.
-    pub fn noise(&mut self) -> bool {
+    pub fn refused_event(&mut self) -> bool {
         let (kind, number) = self.random.pick(CAN_REFUSE);
         if number <= 3 {
             return false; // these would end the run
@@ -27,7 +27,7 @@ impl Walk<'_> {
     }
 
     /// Whatever the state makes of it.
-    pub fn surprise(&mut self) -> bool {
+    pub fn any_event(&mut self) -> bool {
         let kind = self.random.between(0x01, 0x0C) as u8;
         let event = self.candidate(kind);
         let drawn_out = match event {

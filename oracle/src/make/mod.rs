@@ -1,8 +1,8 @@
 //! Made-up sheets. Sheet k of a seed depends on the seed and k alone.
 
 mod candidate;
-mod moods;
 mod plain;
+mod segments;
 mod walk;
 
 use crate::event::body_length;

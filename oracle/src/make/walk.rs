@@ -14,14 +14,14 @@ pub struct Walk<'a> {
     pub limit: usize,
     /// An event did not fit below the limit: the walk is over.
     pub over: bool,
-    /// Purposes that the lanes ask for in this mood.
-    pub taste: Vec<u8>,
+    /// Purposes that the lanes ask for in this segment.
+    pub purposes: Vec<u8>,
 }
 
 impl<'a> Walk<'a> {
     pub fn new(random: &'a mut Random, limit: usize) -> Walk<'a> {
         let machine = Machine::new(Search::AfterReleaser);
-        Walk { random, machine, bytes: Vec::new(), limit, over: false, taste: vec![0] }
+        Walk { random, machine, bytes: Vec::new(), limit, over: false, purposes: vec![0] }
     }
 
     /// Opens a line, now and then after refused events.
@@ -99,7 +99,7 @@ impl<'a> Walk<'a> {
             return false;
         }
         let Some(lane) = self.lane_with(is_idle) else { return false };
-        let purpose = self.random.pick(&self.taste.clone());
+        let purpose = self.random.pick(&self.purposes.clone());
         self.emit(Event::Want { lane, purpose }).is_some()
     }
 

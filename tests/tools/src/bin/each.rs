@@ -57,12 +57,12 @@ fn run(program: &str, piece: usize) -> io::Result<()> {
 
 fn main() -> ExitCode {
     let words: Vec<String> = std::env::args().skip(1).collect();
-    let wish = match words.as_slice() {
+    let arguments = match words.as_slice() {
         [program] => Some((program, usize::MAX)),
         [program, flag, size] if flag == "--pieces" => size.parse().ok().filter(|n| *n > 0).map(|n| (program, n)),
         _ => None,
     };
-    let Some((program, piece)) = wish else {
+    let Some((program, piece)) = arguments else {
         eprintln!("use: each PROGRAM [--pieces N]");
         return ExitCode::from(2);
     };

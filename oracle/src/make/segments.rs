@@ -1,43 +1,43 @@
-//! Moods: stretches of a walk that aim at one part of document 01.
+//! Segments: stretches of a walk that aim at one part of document 01.
 
 use super::walk::*;
 use crate::event::Event;
 use crate::line::Phase;
 
 impl Walk<'_> {
-    /// Moods until the limit is reached, with refused events in between.
+    /// Segments until the limit is reached, with refused events in between.
     pub fn go_on(&mut self) {
         let mut rounds = 0;
         while !self.over && self.line().is_open() && rounds < 20_000 {
             rounds += 1;
             match self.random.below(8) {
-                0 | 1 => self.crowd(),
+                0 | 1 => self.any_order(),
                 2 => self.turns(),
                 3 => self.whole_book(),
                 4 => self.ordered(),
                 5 => self.new_view(),
                 6 => self.reading(),
-                _ => self.surprises(),
+                _ => self.any_events(),
             }
         }
     }
 
     /// Refused events, one time in `n`.
-    fn maybe_noise(&mut self, n: u64) {
+    fn maybe_refused(&mut self, n: u64) {
         if self.random.one_in(n) {
-            self.noise();
+            self.refused_event();
         }
     }
 
-    fn surprises(&mut self) {
+    fn any_events(&mut self) {
         for _ in 0..self.random.between(1, 12) {
-            self.surprise();
+            self.any_event();
         }
     }
 
     /// Wants, receives, releases and records in any order.
-    fn crowd(&mut self) {
-        self.taste =
+    fn any_order(&mut self) {
+        self.purposes =
             self.random.pick(&[&[0u8][..], &[0, 1], &[0, 1, 2], &[1], &[0, 0, 0, 2]]).to_vec();
         let eager = self.random.between(1, 6);
         for _ in 0..self.random.between(5, 120) {
@@ -54,18 +54,18 @@ impl Walk<'_> {
             if !done {
                 let _ = self.act_receive() || self.act_release() || self.act_work();
             }
-            self.maybe_noise(9);
+            self.maybe_refused(9);
         }
     }
 
     /// All lanes want at once, and again as soon as they are idle: the longest waits.
     fn turns(&mut self) {
-        self.taste = self.random.pick(&[&[0u8][..], &[1], &[2], &[0, 1, 2]]).to_vec();
+        self.purposes = self.random.pick(&[&[0u8][..], &[1], &[2], &[0, 1, 2]]).to_vec();
         let rounds = self.line().lanes as u64 * self.random.between(1, 3);
         for _ in 0..rounds {
             while !self.over && self.act_want() {}
             self.act_receive();
-            self.maybe_noise(12);
+            self.maybe_refused(12);
             self.act_release();
             if self.random.one_in(2) {
                 self.act_work();
@@ -78,13 +78,13 @@ impl Walk<'_> {
 
     /// Whole-book work, with others waiting beside it.
     fn whole_book(&mut self) {
-        self.taste = self.random.pick(&[&[2u8][..], &[2, 2, 0], &[2, 1, 0]]).to_vec();
+        self.purposes = self.random.pick(&[&[2u8][..], &[2, 2, 0], &[2, 1, 0]]).to_vec();
         for _ in 0..self.random.between(1, 6) {
             self.act_want();
             self.act_receive();
             for _ in 0..self.random.below(8) {
                 self.act_book();
-                self.maybe_noise(6);
+                self.maybe_refused(6);
             }
             if self.random.one_in(3) {
                 self.act_want();
@@ -109,7 +109,7 @@ impl Walk<'_> {
             } else if !self.drain_step() {
                 return false;
             }
-            self.maybe_noise(40);
+            self.maybe_refused(40);
         }
         false
     }
@@ -144,17 +144,17 @@ impl Walk<'_> {
         self.random.shuffle(&mut lanes);
         let stop = if self.random.one_in(8) { lanes.len() / 2 } else { lanes.len() };
         for &lane in &lanes[..stop] {
-            self.maybe_noise(3);
+            self.maybe_refused(3);
             let count = self.ordered_count();
             self.emit(Event::Enter { lane, count });
         }
         if self.random.one_in(3) {
-            self.taste = vec![0, 1, 2];
+            self.purposes = vec![0, 1, 2];
             self.act_want();
         }
         for _ in 0..self.random.below(3 * lanes.len() as u64 + 1) {
             self.act_work();
-            self.maybe_noise(12);
+            self.maybe_refused(12);
         }
     }
 
@@ -175,13 +175,13 @@ impl Walk<'_> {
         if !self.drain() {
             return;
         }
-        self.maybe_noise(2);
+        self.maybe_refused(2);
         let event = self.good_view();
         self.emit(event);
         for _ in 0..self.random.below(4) {
             self.any_seek();
         }
-        self.taste = vec![0, 0, 1, 2];
+        self.purposes = vec![0, 0, 1, 2];
         for _ in 0..self.random.below(12) {
             let _ = self.act_want();
             let _ = self.act_receive() || self.act_book() || self.act_release();
@@ -202,12 +202,12 @@ impl Walk<'_> {
             let low = self.random.pick(&[0, 0, size.saturating_sub(2), 65_535]);
             self.emit(Event::Seek { whence: 0, offset: low as i32 });
         }
-        self.taste = self.random.pick(&[&[1u8][..], &[1, 1, 0]]).to_vec();
+        self.purposes = self.random.pick(&[&[1u8][..], &[1, 1, 0]]).to_vec();
         for _ in 0..self.random.between(4, 30) {
             let _ = self.act_want();
             let _ = self.act_receive() || self.act_release();
             let _ = self.act_work();
-            self.maybe_noise(12);
+            self.maybe_refused(12);
         }
     }
 }
