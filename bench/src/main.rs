@@ -1,5 +1,5 @@
 //! `bench`: checks that the proved and the in-place program agree, then times both and prints
-//! tables. `bench drive PROGRAM N WORKLOAD` runs one program alone N times, for a profiler.
+//! tables. `bench check` does the first alone. `bench drive PROGRAM N WORKLOAD` runs one program alone N times, for a profiler.
 
 mod check;
 mod inplace;
@@ -94,20 +94,36 @@ fn time_all() {
     print_load();
 }
 
-fn check_and_time() -> ExitCode {
+/// Whether the programs agree.
+fn agree() -> bool {
     match check::check() {
         Err(difference) => {
             println!("the two programs differ: {difference}");
-            ExitCode::FAILURE
+            false
         }
         Ok(checked) => {
             let (sheets, events) = (checked.sheets, checked.events);
             println!("{sheets} sheets with {events} events: same text, same book;");
             println!("every answer and every refusal from 2 to 16 came up.\n");
-            time_all();
-            ExitCode::SUCCESS
+            true
         }
     }
+}
+
+fn check_alone() -> ExitCode {
+    if agree() {
+        ExitCode::SUCCESS
+    } else {
+        ExitCode::FAILURE
+    }
+}
+
+fn check_and_time() -> ExitCode {
+    if !agree() {
+        return ExitCode::FAILURE;
+    }
+    time_all();
+    ExitCode::SUCCESS
 }
 
 /// One program alone, on one workload.
@@ -122,7 +138,7 @@ fn drive(program: &str, times: &str, workload: &str) -> ExitCode {
 }
 
 fn usage() -> ExitCode {
-    println!("use: bench | bench drive PROGRAM N WORKLOAD");
+    println!("use: bench | bench check | bench drive PROGRAM N WORKLOAD");
     for program in timing::PROGRAMS {
         println!("program: {}", program.name);
     }
@@ -137,6 +153,7 @@ fn main() -> ExitCode {
     let words: Vec<&str> = words.iter().map(String::as_str).collect();
     match words.as_slice() {
         [] => check_and_time(),
+        ["check"] => check_alone(),
         ["drive", program, times, workload] => drive(program, times, workload),
         _ => usage(),
     }
