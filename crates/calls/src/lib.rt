@@ -58,13 +58,13 @@ pub fn read(line: Line, book: &mut [u8], lane: u8) -> Outcome
 pub fn put(line: Line, book: &mut [u8], lane: u8, number: u32, content: u64) -> Outcome
     ensures { λ r. ⌜ Meets (callEvent (stateOf line (now (book .entry))) (Event.Put lane (place number) content)) r (now (book .exit)) ⌝ }
 {
-    let at = Place(number);
+    let place = Place(number);
     call_event(
         line,
         book,
         Event::Put {
             lane,
-            place: at,
+            place,
             content,
         },
     )
