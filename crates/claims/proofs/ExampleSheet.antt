@@ -1,6 +1,5 @@
 -- The example sheet of document 01 comes out of the definitions by computation.
 use mathlib.Core.Path.{_≡_, refl}
-use Rattle.lists.specs.Lists.{every}
 use Rattle.view.specs.View.{blockRecord, inOrder, positionOf, viewOk}
 use Rattle.line.specs.Sound.{sound}
 use Rattle.waitlist.specs.NextLane.{firstRaised, nextLane}

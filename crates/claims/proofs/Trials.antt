@@ -1,8 +1,7 @@
 -- The trials of demand 3, by computation.
-use Prim.Native.Nat.{ℕ, _≤_}
+use Prim.Native.Nat.{_≤_}
 use mathlib.Core.Path.{_≡_, refl}
-use mathlib.Core.Bool.{true}
-use mathlib.Core.List.{List, [], _∷_, _++_, map}
+use mathlib.Core.List.{[], _∷_, _++_, map}
 use native.Mathlib.Omega.{arith}
 use Rattle.lists.specs.Lists.{count}
 use Rattle.view.specs.View.{blockRecord, inOrder, positionOf, viewOk}
@@ -13,7 +12,7 @@ use Rattle.event.specs.BigEndian.{bigEndian, numberOf}
 use Rattle.event.specs.Event.{fieldsIn}
 use Rattle.steps.specs.Effects.{started}
 use Rattle.steps.specs.Step.{afterBy, stepBy}
-use Rattle.demand3.specs.Claim.{Demand3, Handed, countFor, entries, entriesAfter, grants, handTo, handed, isRelease, lanesIn, shares, status, tellsToWait, wakes}
+use Rattle.demand3.specs.Claim.{Demand3, Handed, countFor, entries, entriesAfter, grants, handTo, handed, isRelease, lanesIn, shares, status, wakes}
 use Rattle.claims.specs.Trials.{book64, fromZero, long62, long63, longEarly, mixed, opening, passesFrom, wanting, wantsFrom, zeroEarly, zeroLater}
 
 -- lane 63 of 64 waits for lane 0: 63 steps. After 62 releases it is not woken, and the 63rd wakes it

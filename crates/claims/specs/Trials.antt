@@ -1,6 +1,6 @@
 -- Lists of calls on which demand 3 is tried: that it says something, and that a search from lane 0 breaks it.
-use Prim.Native.Nat.{ℕ, zero, suc, _+_, _-_}
-use mathlib.Core.List.{List, [], _∷_, _++_}
+use Prim.Native.Nat.{ℕ, zero, suc, _+_}
+use mathlib.Core.List.{List, [], _∷_}
 use lib.ListN.{replicate}
 use Rattle.waitlist.specs.NextLane.{firstRaised}
 use Rattle.waitlist.specs.declared.Wakes.{Wakes}

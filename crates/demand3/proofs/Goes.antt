@@ -1,7 +1,7 @@
 -- Where a lane waits, one lane has the turn, and its next call would be accepted.
-use Prim.Native.Nat.{ℕ, zero, suc, _+_, _*_, _≤_, _<_}
+use Prim.Native.Nat.{ℕ, zero, suc, _+_, _<_}
 use mathlib.Core.Path.{_≡_, refl, sym, ap, _∙_}
-use mathlib.Core.Bool.{Bool, true, false, not, _&&_, _||_}
+use mathlib.Core.Bool.{Bool, true, false}
 use mathlib.Core.List.{List, [], _∷_}
 use native.Mathlib.Omega.{arith}
 use lib.ListN.{getD, length, replicate}
@@ -14,20 +14,21 @@ use Rattle.line.specs.declared.Phase.{Phase}
 use Rattle.line.specs.declared.Line.{Line}
 use Rattle.line.specs.Line.{hasTurn, isWaiting, mostPointer, phaseAt}
 use Rattle.line.specs.Sound.{sound}
+use Rattle.line.proofs.Phases.{waiting-up}
 use Rattle.line.proofs.Facts.{Facts, sound-of, when-open}
 use Rattle.waitlist.specs.NextLane.{nextLane}
 use Rattle.event.specs.BigEndian.{numberOf}
-use Rattle.event.specs.Event.{Call, fieldsIn, given}
+use Rattle.event.specs.Event.{fieldsIn, given}
 use Rattle.event.specs.declared.Event.{Event}
 use Rattle.steps.specs.Answer.{saidBy}
 use Rattle.steps.specs.State.{State}
 use Rattle.steps.specs.Refusals.{reasons}
 use Rattle.steps.specs.Step.{stepBy}
 use Rattle.steps.proofs.Keeps.{GoodState, holding-value}
-use Rattle.steps.proofs.Lowest.{NotApplies, none-accepts}
-use Rattle.demand3.specs.Claim.{callIn, holding, nextCall, release, saidTo, woken}
+use Rattle.steps.proofs.Lowest.{none-accepts}
+use Rattle.demand3.specs.Claim.{callIn, nextCall, release, saidTo, woken}
 use Rattle.demand3.proofs.Status.{statusOf}
-use Rattle.demand3.proofs.Turn.{same-turn, turn-found, turn-up, up-count, up-inside, waits-up}
+use Rattle.demand3.proofs.Turn.{same-turn, turn-found, turn-up, up-count, up-inside}
 
 -- ---- the nextCall calls as events
 one-byte : (b : ℕ) → numberOf (b ∷ []) ≡ b
@@ -95,7 +96,7 @@ pub record OnlyPhase (l : Line) (h : ℕ) : Type 0 where
 
 pub only-turn : (l : Line) → Facts l → (i : ℕ) → isWaiting (phaseAt l i) ≡ true → (h : ℕ) × OnlyPhase l h
 only-turn l F i w =
-    let r = turn-found l F (up-count l F i (waits-up (phaseAt l i) w)) in
+    let r = turn-found l F (up-count l F i (waiting-up (phaseAt l i) w)) in
     (r .0, record { has = r .1; only = λ j t. same-turn l F j (r .0) t (r .1) })
 
 pub goes : (x : State) → GoodState x → (h : ℕ) → hasTurn (phaseAt (x .line) h) ≡ true → saidTo nextLane x (nextCall h (statusOf (phaseAt (x .line) h))) .accepted ≡ true

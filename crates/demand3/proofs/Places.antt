@@ -1,40 +1,38 @@
 -- From an opening, a seek or a change of view to the next, the places handed out are all from the first pointer value up to the last, in order.
 use Prim.Native.Nat.{ℕ, zero, suc, _+_, _-_, _≤_, _<_}
 use mathlib.Core.Path.{_≡_, refl, sym, ap, _∙_}
-use mathlib.Core.Logic.{_≢_}
 use mathlib.Core.Bool.{Bool, true, false, cond, _&&_, _||_}
 use mathlib.Core.List.{List, [], _∷_, _++_, map, append-assoc, append-nil}
 use native.Mathlib.Omega.{arith}
 use native.Mathlib.Nat.{add-zero, suc-add, zero-add}
 use native.Mathlib.Decide.{ℕ-discrete}
-use lib.ListN.{getD, length, set}
+use lib.ListN.{getD, set}
 use lib.Dec.{eqb, leb}
 use borrow.Author.Tests.{eq-eqb, ne-eqb}
-use Rattle.lists.specs.Lists.{all, bit, count, sumOf}
+use Rattle.lists.specs.Lists.{all, count, sumOf}
 use Rattle.lists.proofs.Tests.{at-test, by-test, clash}
-use Rattle.lists.proofs.Counts.{all-getD, bit-zero}
+use Rattle.lists.proofs.Counts.{bit-zero}
 use Rattle.view.specs.View.{place, recordEnd}
 use Rattle.view.specs.declared.Place.{Place}
 use Rattle.line.specs.declared.Purpose.{Purpose}
 use Rattle.line.specs.declared.Phase.{Phase}
 use Rattle.line.specs.declared.Lane.{Lane}
 use Rattle.line.specs.declared.Line.{Line}
-use Rattle.line.specs.Line.{countIn, idleLane, isIdle, isIdleOrGathered, lane, on, phaseAt}
+use Rattle.line.specs.Line.{countIn, idleLane, isIdleOrGathered, lane, on, phaseAt}
 use Rattle.line.specs.Sound.{gatheredTotal}
-use Rattle.line.proofs.Phases.{idle-is}
 use Rattle.waitlist.specs.NextLane.{nextLane}
 use Rattle.waitlist.specs.declared.Wakes.{Wakes}
 use Rattle.event.specs.Event.{given}
 use Rattle.event.specs.declared.Event.{Event}
 use Rattle.steps.specs.Answer.{saidBy}
-use Rattle.steps.specs.State.{Result, State}
-use Rattle.steps.specs.Effects.{allEntered, entered, lowered, nextOf, freed, oneLess, ordered, othersDown, purposeOf, reading, released, started, wake, woken, writing}
+use Rattle.steps.specs.State.{Result, State, fresh}
+use Rattle.steps.specs.Effects.{allEntered, entered, lowered, nextOf, freed, oneLess, ordered, othersDown, purposeOf, reading, released, wake, woken, writing}
 use Rattle.steps.specs.Step.{afterBy, stepBy}
 use Rattle.steps.proofs.Cases.{Steps, enters, frees, looks, opens, puts, reads, receives, refuses, seeks, take-reads, take-writes, views, wants, writes}
 use Rattle.steps.proofs.Keeps.{GoodState, fresh-idle, holding-value}
 use Rattle.steps.proofs.Ordered.{busy-by, entered-all, started-by}
 use Rattle.steps.proofs.Stored.{other-phase, placed, same-phase}
-use Rattle.demand3.specs.Claim.{Entered, Entry, CallBytes, Grant, Handed, afterAll, callIn, countFor, enteredAfter, enteredNext, entries, grants, grantsBy, handTo, handed, isAccepted, isReset, lanesIn, range, shares, start, value}
+use Rattle.demand3.specs.Claim.{Entered, Entry, CallBytes, Grant, Handed, afterAll, callIn, countFor, enteredAfter, enteredNext, entries, grants, grantsBy, handTo, handed, isReset, range, shares, value}
 use Rattle.demand3.proofs.Seen.{by-entry, entryOf}
 use Rattle.demand3.proofs.Trace.{entryOn, then, then-good}
 
@@ -311,6 +309,6 @@ gathers-all (g ∷ gs) x ns G C =
     (by-test (isReset (entryOn x g)) (reset-gathers x G ns C g) (λ f. moves-on x G ns C g f .gathers))
 
 -- at the start no lane is gathered
-pub start-gathers : (book : List ℕ) → Gathers [] (start book .line)
+pub start-gathers : (book : List ℕ) → Gathers [] (fresh book .line)
 unfolding countFor
 start-gathers book = record { each = λ r. sym (ap countIn (fresh-idle 0 0 r)) }

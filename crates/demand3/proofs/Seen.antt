@@ -1,17 +1,17 @@
 -- What the bytes of a call and its answer show of the step that it made.
-use Prim.Native.Nat.{ℕ, zero, suc, _+_, _*_, _^_, _≤_, _<_}
+use Prim.Native.Nat.{ℕ, zero, suc, _≤_, _<_}
 use mathlib.Core.Path.{_≡_, refl, sym, ap, _∙_, subst}
 use mathlib.Core.Logic.{_⊎_, inl, inr}
-use mathlib.Core.Bool.{Bool, true, false, cond, _&&_}
+use mathlib.Core.Bool.{true}
 use mathlib.Core.List.{List, [], _∷_}
 use native.Mathlib.Omega.{arith}
 use lib.ListN.{drop, getD, length, take}
 use lib.Dec.{leb}
 use borrow.Author.Tests.{leb-true}
-use Rattle.lists.proofs.Tests.{and-left, and-right, by-test, clash}
+use Rattle.lists.proofs.Tests.{and-right, by-test, clash}
 use Rattle.waitlist.specs.NextLane.{nextLane}
 use Rattle.event.specs.BigEndian.{numberOf}
-use Rattle.event.specs.Event.{Call, bodyLength, callOf, cutShort, eventOf, fieldLengths, fieldsIn, given, isListed, kindOf}
+use Rattle.event.specs.Event.{Call, bodyLength, cutShort, eventOf, fieldLengths, fieldsIn, given, isListed, kindOf}
 use Rattle.event.specs.declared.Event.{Event}
 use Rattle.steps.specs.Answer.{Said, saidBy}
 use Rattle.steps.specs.State.{Result, State}

@@ -1,22 +1,20 @@
 -- How a lane stands, read off the calls and answers, is what its phase says.
-use Prim.Native.Nat.{ℕ, zero, suc, _+_, _-_, _≤_, _<_}
+use Prim.Native.Nat.{ℕ, _+_, _-_, _<_}
 use mathlib.Core.Path.{_≡_, refl, sym, ap, _∙_}
-use mathlib.Core.Logic.{_≢_}
-use mathlib.Core.Bool.{Bool, true, false, cond, not, _&&_, _||_, and-false, or-false}
-use mathlib.Core.List.{List, [], _∷_, _++_, map}
+use mathlib.Core.Bool.{true, false, cond, _&&_, and-false, or-false}
+use mathlib.Core.List.{List, [], _∷_}
 use native.Mathlib.Omega.{arith}
 use native.Mathlib.Decide.{ℕ-discrete}
-use lib.ListN.{getD, length}
+use lib.ListN.{getD}
 use lib.Dec.{eqb, leb}
 use borrow.Author.Tests.{eq-eqb, ne-eqb}
-use Rattle.lists.specs.Lists.{all, any}
-use Rattle.lists.proofs.Tests.{at-test, both, by-test, clash}
+use Rattle.lists.specs.Lists.{any}
+use Rattle.lists.proofs.Tests.{at-test, by-test, clash}
 use Rattle.lists.proofs.Counts.{all-getD}
 use Rattle.view.specs.View.{place, recordEnd}
 use Rattle.view.specs.declared.Place.{Place}
 use Rattle.line.specs.declared.Purpose.{Purpose}
 use Rattle.line.specs.declared.Phase.{Phase}
-use Rattle.line.specs.declared.Line.{Line}
 use Rattle.line.specs.Line.{idleLane, isIdleOrGathered, on, phaseAt}
 use Rattle.line.specs.Line as phases
 use Rattle.line.proofs.Phases.{isUp}
@@ -27,13 +25,13 @@ use Rattle.event.specs.declared.Event.{Event}
 use Rattle.steps.specs.Answer.{saidBy}
 use Rattle.steps.specs.State.{Result, State}
 use Rattle.steps.specs.Effects.{allEntered, entered, lowered, nextOf, oneLess, othersDown, purposeOf, reading, released, started, wake, woken as wokenPhase, writing}
-use Rattle.steps.specs.Step.{afterBy, stepBy}
-use Rattle.steps.proofs.Cases.{Steps, enters, frees, looks, opens, puts, reads, receives, refuses, seeks, steps, take-reads, take-writes, views, wants, writes}
+use Rattle.steps.specs.Step.{afterBy}
+use Rattle.steps.proofs.Cases.{Steps, enters, frees, looks, opens, puts, reads, receives, refuses, seeks, take-reads, take-writes, views, wants, writes}
 use Rattle.steps.proofs.Keeps.{GoodState, free-leaving, fresh-idle, take-reads-leaving, take-writes-leaving}
 use Rattle.steps.proofs.Ordered.{busy-by, entered-all, started-by}
 use Rattle.steps.proofs.Release.{Chosen, Leaving, chosen, woken-now}
 use Rattle.steps.proofs.Stored.{other-phase, placed, same-phase}
-use Rattle.demand3.specs.Claim.{Entry, CallBytes, Status, afterAll, callIn, entries, hasTurn, holding, isRelease, isWaiting, off, purposeFor, status, statusNext, tellsToWait, waiting, wakes, woken, wokenBy}
+use Rattle.demand3.specs.Claim.{Entry, CallBytes, Status, afterAll, entries, hasTurn, holding, isWaiting, off, purposeFor, status, statusNext, waiting, wakes, woken, wokenBy}
 use Rattle.demand3.proofs.Seen.{by-entry, entryOf}
 use Rattle.demand3.proofs.Trace.{entryOn, then, then-good}
 

@@ -1,31 +1,29 @@
 -- Demand 3 holds of every list of calls, from an unopened line and any lent bytes.
-use Prim.Native.Nat.{ℕ, zero, suc, _+_, _-_, _≤_}
+use Prim.Native.Nat.{ℕ, _+_, _-_}
 use mathlib.Core.Path.{_≡_, refl, sym, ap, _∙_}
-use mathlib.Core.Bool.{Bool, true, false, cond, not, _&&_, _||_}
-use mathlib.Core.List.{List, [], _∷_, _++_, map}
+use mathlib.Core.Bool.{true, cond}
+use mathlib.Core.List.{List, [], _∷_, _++_}
 use native.Mathlib.Omega.{arith}
-use lib.Dec.{eqb, leb}
+use lib.Dec.{leb}
 use Rattle.lists.specs.Lists.{count}
-use Rattle.lists.proofs.Tests.{and-left, at-test, by-test, clash}
+use Rattle.lists.proofs.Tests.{and-left, by-test}
 use Rattle.view.specs.View.{recordEnd}
-use Rattle.line.specs.declared.Line.{Line}
 use Rattle.line.specs.declared.Phase.{Phase}
 use Rattle.line.specs.declared.Purpose.{Purpose}
 use Rattle.line.specs.Line.{phaseAt}
 use Rattle.line.specs.Line as phases
 use Rattle.waitlist.specs.NextLane.{nextLane}
-use Rattle.waitlist.specs.declared.Wakes.{Wakes}
-use Rattle.event.specs.Event.{Call, given}
+use Rattle.event.specs.Event.{given}
 use Rattle.event.specs.declared.Event.{Event}
 use Rattle.steps.specs.Answer.{saidBy}
-use Rattle.steps.specs.State.{Result, State}
-use Rattle.steps.specs.Effects.{Search, allEntered, entered, freed, nextOf, othersDown, purposeOf, taken, wake}
-use Rattle.steps.specs.Step.{afterBy, stepBy}
+use Rattle.steps.specs.State.{Result, State, fresh}
+use Rattle.steps.specs.Effects.{allEntered, entered, freed, nextOf, othersDown, purposeOf, taken}
+use Rattle.steps.specs.Step.{afterBy}
 use Rattle.steps.proofs.Cases.{Steps, enters, frees, looks, opens, puts, reads, receives, refuses, seeks, take-reads, take-writes, views, wants, writes}
 use Rattle.steps.proofs.Keeps.{GoodState, fresh-idle, unopened-good}
-use Rattle.demand3.specs.Claim.{Demand3, DemandThree, Entry, CallBytes, Grant, Handed, InOrder, NextAccepted, OneTurn, OnlyTurn, Status, WaitEnds, afterAll, callIn, entries, entriesAfter, enteredAfter, entriesOf, entryAfter, grants, hasTurn, isAccepted, isReset, isWaiting, lanesIn, off, status, statusNext, start, tellsToWait, value, waiting, wantsBy}
+use Rattle.demand3.specs.Claim.{DemandThree, Entry, CallBytes, InOrder, NextAccepted, OneTurn, OnlyTurn, Status, WaitEnds, afterAll, entries, entriesAfter, enteredAfter, entriesOf, entryAfter, grants, hasTurn, isAccepted, isReset, isWaiting, lanesIn, off, status, statusNext, tellsToWait, value, waiting, wantsBy}
 use Rattle.demand3.proofs.Goes.{OnlyPhase, goes, only-turn}
-use Rattle.demand3.proofs.Places.{Placed, all-placed, gathers-all, start-gathers, total, wake-lanes}
+use Rattle.demand3.proofs.Places.{all-placed, gathers-all, start-gathers, total, wake-lanes}
 use Rattle.demand3.proofs.Seen.{by-entry, entryOf}
 use Rattle.demand3.proofs.Status.{stand-call, statusOf, stands, turn-is, waits-is}
 use Rattle.demand3.proofs.Trace.{entryOn, fair, sent, single, then, then-good}
@@ -74,17 +72,17 @@ lanes-are (g ∷ gs) x = ap (λ (n : ℕ). lanesIn n (entries nextLane (then x g
 -- ---- what is claimed after the calls `early`
 module _ (book : List ℕ) (early : List CallBytes) where
   abbrev here : State
-  here = afterAll nextLane (start book) early
+  here = afterAll nextLane (fresh book) early
 
   good : GoodState here
-  good = after-good early (start book) (unopened-good book)
+  good = after-good early (fresh book) (unopened-good book)
 
   stood : (i : ℕ) → status i off (entriesOf nextLane book early) ≡ statusOf (phaseAt (here .line) i)
   stood i =
-      ap (λ (s : Status). status i s (entriesOf nextLane book early)) (sym (ap statusOf (fresh-idle 0 0 i))) ∙ stands early (start book) (unopened-good book) i
+      ap (λ (s : Status). status i s (entriesOf nextLane book early)) (sym (ap statusOf (fresh-idle 0 0 i))) ∙ stands early (fresh book) (unopened-good book) i
 
   lanes-here : lanesIn 0 (entriesOf nextLane book early) ≡ here .line .lanes
-  lanes-here = lanes-are early (start book)
+  lanes-here = lanes-are early (fresh book)
 
   waits-here : (i : ℕ) → isWaiting (status i off (entriesOf nextLane book early)) ≡ true → phases.isWaiting (phaseAt (here .line) i) ≡ true
   waits-here i w = sym (waits-is (phaseAt (here .line) i)) ∙ ap isWaiting (sym (stood i)) ∙ w
@@ -129,8 +127,8 @@ module _ (book : List ℕ) (early later : List CallBytes) (first : CallBytes) wh
   placed-here : count isReset (entriesAfter nextLane book begun later) ≡ 0 → InOrder nextLane book begun later
   placed-here z =
       let ns = enteredAfter [] (entriesOf nextLane book begun) in
-      let P = all-placed later (here book begun) ns (good book begun) (gathers-all begun (start book) [] (unopened-good book) (start-gathers book)) z in
-      let last = ap (λ (x : State). x .line .pointer .0) (after-append begun later (start book)) ∙ P .last in
+      let P = all-placed later (here book begun) ns (good book begun) (gathers-all begun (fresh book) [] (unopened-good book) (start-gathers book)) z in
+      let last = ap (λ (x : State). x .line .pointer .0) (after-append begun later (fresh book)) ∙ P .last in
       let n = lanes-here book begun in
       let m : here book (begun ++ later) .line .pointer .0 - here book begun .line .pointer .0 ≡ total (grants (here book begun .line .lanes) ns (entriesAfter nextLane book begun later)) = omega (arith, last) in
       record { places = rw (n, m) (P .in-order); last = rw n last }
@@ -138,7 +136,7 @@ module _ (book : List ℕ) (early later : List CallBytes) (first : CallBytes) wh
 pub demand-three : DemandThree
 demand-three book calls =
     record {
-      waits-end = λ early later rest told i q t. wait-ends book (early ++ told ∷ []) i later (rw (after-one early told (start book)) (told-waits book early told i t));
+      waits-end = λ early later rest told i q t. wait-ends book (early ++ told ∷ []) i later (rw (after-one early told (fresh book)) (told-waits book early told i t));
       one-turn = λ early rest i q w. turn-here book early i w;
       goes-on = λ early rest h q t. goes-here book early h t;
       in-order = λ early later rest first q r z. placed-here book early later first z;

@@ -1,12 +1,11 @@
 -- Over a list of calls: a waiting lane's wake is sent in time, once, and until then every other lane is woken at most once.
-use Prim.Native.Nat.{ℕ, zero, suc, _+_, _-_, _≤_, _<_}
+use Prim.Native.Nat.{ℕ, _+_, _-_, _≤_, _<_}
 use mathlib.Core.Path.{_≡_, refl, sym, ap, _∙_}
 use mathlib.Core.Logic.{_≢_, _⊎_, inl, inr}
-use mathlib.Core.Bool.{Bool, true, false}
+use mathlib.Core.Bool.{true, false}
 use mathlib.Core.List.{List, [], _∷_}
 use native.Mathlib.Omega.{arith}
 use native.Mathlib.Decide.{decLt, ℕ-discrete}
-use lib.Dec.{eqb}
 use borrow.Author.Tests.{eq-eqb, ne-eqb}
 use Rattle.lists.specs.Lists.{bit, count}
 use Rattle.lists.proofs.Tests.{both}
@@ -15,7 +14,7 @@ use Rattle.line.specs.Line.{hasTurn, isWaiting, phaseAt}
 use Rattle.waitlist.specs.Distance.{distance}
 use Rattle.waitlist.specs.NextLane.{nextLane}
 use Rattle.waitlist.proofs.Nearest.{distance-round, distance-up}
-use Rattle.steps.specs.State.{Result, State}
+use Rattle.steps.specs.State.{State}
 use Rattle.steps.specs.Step.{stepBy}
 use Rattle.steps.proofs.Cases.{steps}
 use Rattle.steps.proofs.Keeps.{GoodState, keeps}

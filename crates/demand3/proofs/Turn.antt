@@ -1,12 +1,11 @@
 -- What a step does while a lane waits: nothing, or it wakes that lane, or it wakes one that is nearer to it. And a lane that does not wait.
-use Prim.Native.Nat.{ℕ, zero, suc, _+_, _-_, _≤_, _<_}
-use mathlib.Core.Path.{_≡_, refl, sym, ap, _∙_, subst}
+use Prim.Native.Nat.{ℕ, _+_, _-_, _<_}
+use mathlib.Core.Path.{_≡_, refl, sym, ap, _∙_}
 use mathlib.Core.Logic.{_≢_, _⊎_, inl, inr}
-use mathlib.Core.Bool.{Bool, true, false, cond, not, _&&_, _||_, or-false}
-use mathlib.Core.List.{List, [], _∷_}
+use mathlib.Core.Bool.{Bool, true, false, cond, _&&_, or-false}
 use native.Mathlib.Omega.{arith}
 use native.Mathlib.Decide.{decLt, ℕ-discrete}
-use lib.ListN.{getD, length, set}
+use lib.ListN.{getD}
 use lib.Dec.{eqb, leb}
 use borrow.Author.Tests.{eq-eqb, ne-eqb}
 use Rattle.lists.specs.Lists.{all, any, count}
@@ -18,18 +17,17 @@ use Rattle.line.specs.declared.Purpose.{Purpose}
 use Rattle.line.specs.declared.Phase.{Phase}
 use Rattle.line.specs.declared.Lane.{Lane}
 use Rattle.line.specs.declared.Line.{Line}
-use Rattle.line.specs.Line.{hasTurn, idleLane, isBusy, isGathered, isIdle, isIdleOrGathered, isWaiting, lane, on, phaseAt}
-use Rattle.line.proofs.Facts.{Facts, up-split}
-use Rattle.line.proofs.Phases.{isUp}
+use Rattle.line.specs.Line.{hasTurn, idleLane, isIdle, isIdleOrGathered, isWaiting, lane, on, phaseAt}
+use Rattle.line.proofs.Facts.{Facts}
+use Rattle.line.proofs.Phases.{isUp, waiting-up}
 use Rattle.waitlist.specs.Distance.{distance}
-use Rattle.waitlist.specs.NextLane.{nextLane, raised, wakesValues}
+use Rattle.waitlist.specs.NextLane.{nextLane, wakesValues}
 use Rattle.waitlist.specs.declared.Wakes.{Wakes}
-use Rattle.waitlist.proofs.Nearest.{next-none}
-use Rattle.event.specs.Event.{Call, given}
+use Rattle.event.specs.Event.{given}
 use Rattle.event.specs.declared.Event.{Event}
-use Rattle.steps.specs.Answer.{Said, saidBy}
-use Rattle.steps.specs.State.{Result, State, withPhase}
-use Rattle.steps.specs.Effects.{allEntered, entered, lowered, nextOf, oneLess, othersDown, purposeOf, reading, recordAt, released, started, startedAt, wake, woken, writing}
+use Rattle.steps.specs.Answer.{saidBy}
+use Rattle.steps.specs.State.{Result, State}
+use Rattle.steps.specs.Effects.{allEntered, entered, lowered, nextOf, oneLess, othersDown, purposeOf, reading, released, wake, woken, writing}
 use Rattle.steps.proofs.Cases.{Steps, enters, frees, looks, opens, puts, reads, receives, refuses, seeks, take-reads, take-writes, views, wants, writes}
 use Rattle.steps.proofs.Keeps.{GoodState, free-leaving, fresh-idle, others-none, take-reads-leaving, take-writes-leaving}
 use Rattle.steps.proofs.Ordered.{busy-by, entered-all, started-by}
@@ -39,15 +37,6 @@ use Rattle.demand3.specs.Claim.{Entry, isRelease, wakes, wantsBy, wokenB
 use Rattle.demand3.proofs.Seen.{entryOf}
 
 -- ---- phases
-pub waits-up : (y : Phase) → isWaiting y ≡ true → isUp y ≡ true
-waits-up Phase.Idle e = clash (sym e)
-waits-up (Phase.Waiting p) e = refl
-waits-up (Phase.Woken p v) e = clash (sym e)
-waits-up (Phase.Holding p v) e = clash (sym e)
-waits-up (Phase.BusyWriting n k) e = clash (sym e)
-waits-up (Phase.BusyReading n k) e = clash (sym e)
-waits-up (Phase.Gathered n) e = clash (sym e)
-
 pub turn-up : (y : Phase) → hasTurn y ≡ true → isUp y ≡ true
 turn-up Phase.Idle e = clash (sym e)
 turn-up (Phase.Waiting p) e = clash (sym e)
@@ -109,10 +98,10 @@ woken-none e j q = ap (any (eqb j)) q
 
 module _ (x : State) (G : GoodState x) (i h : ℕ) (wi : isWaiting (phaseAt (x .line) i) ≡ true) (th : hasTurn (phaseAt (x .line) h) ≡ true) where
   inside : i < x .line .lanes
-  inside = up-inside (x .line) (G .facts) i (waits-up (phaseAt (x .line) i) wi)
+  inside = up-inside (x .line) (G .facts) i (waiting-up (phaseAt (x .line) i) wi)
 
   some-up : 0 < count (on isUp) (x .line .lane)
-  some-up = up-count (x .line) (G .facts) i (waits-up (phaseAt (x .line) i) wi)
+  some-up = up-count (x .line) (G .facts) i (waiting-up (phaseAt (x .line) i) wi)
 
   -- another lane's phase changes, one that neither waits nor has the turn
   kept : (k : ℕ) (o y : Phase) → phaseAt (x .line) k ≡ o → isWaiting o ≡ false → hasTurn o ≡ false
@@ -138,13 +127,13 @@ module _ (x : State) (G : GoodState x) (i h : ℕ) (wi : isWaiting (phaseAt (x .
       still = other-phase (x .line) k i y ik
 
       go : (m : Wakes) → nextOf nextLane (lowered (x .line) k y q) k ≡ m → Turn x i h e a
-      go Wakes.None t = absurd (alone (x .line) (G .facts) k o y q L t i inside ik (waits-up (phaseAt (x .line) i) wi))
+      go Wakes.None t = absurd (alone (x .line) (G .facts) k o y q L t i inside ik (waiting-up (phaseAt (x .line) i) wi))
       go (Wakes.Lane w) t =
           elim (ℕ-discrete w i) [
             | yes z ↦ its re (names i ∙ eq-eqb i w (sym z)) (rw (lines, ← z, now))
             | no z ↦ nearer w re names z (ap (λ (l : Line). l .lanes) lines)
                 (rw (lines, there i (λ u. z (sym u)), still) wi) (rw (lines, now))
-                (rw (← kh) (C .nearer i inside (waits-up (phaseAt (x .line) i) wi) ik (λ u. z (sym u))))
+                (rw (← kh) (C .nearer i inside (waiting-up (phaseAt (x .line) i) wi) ik (λ u. z (sym u))))
           ]
         where
           C : Chosen (x .line) k w

@@ -1,19 +1,18 @@
 -- Demand 3 as one claim about every list of calls: what a reader must believe, and no proof. docs/DEMAND3.md goes through it.
-use Prim.Native.Nat.{ℕ, zero, suc, _+_, _-_, _≤_, _<_}
+use Prim.Native.Nat.{ℕ, zero, suc, _+_, _-_, _≤_}
 use mathlib.Core.Path.{_≡_}
 use mathlib.Core.Bool.{Bool, true, false, cond, not, _&&_, _||_}
 use mathlib.Core.List.{List, [], _∷_, _++_, map}
 use lib.ListN.{drop, getD, length, take}
 use lib.Dec.{eqb, leb}
 use Rattle.lists.specs.Lists.{any, count, sumOf}
-use Rattle.line.specs.Line.{unopened}
 use Rattle.line.specs.declared.Purpose.{Purpose}
 use Rattle.waitlist.specs.Distance.{distance}
 use Rattle.waitlist.specs.NextLane.{nextLane}
 use Rattle.event.specs.BigEndian.{numberOf}
 use Rattle.event.specs.Event.{Call, callOf}
 use Rattle.steps.specs.Answer.{Said, saidBy}
-use Rattle.steps.specs.State.{Result, State}
+use Rattle.steps.specs.State.{State, fresh}
 use Rattle.steps.specs.Effects.{Search, purposeOf}
 use Rattle.steps.specs.Step.{afterBy, stepBy}
 
@@ -25,10 +24,6 @@ pub record CallBytes : Type 0 where
 
 abbrev pub callIn : CallBytes → Call
 callIn g = callOf (g .kind) (g .body)
-
--- "Its list starts with an unopened line and a lent buffer of any length and any bytes"
-abbrev pub start : List ℕ → State
-start book = record { line = unopened; book = book }
 
 -- the line and the buffer as a list of calls leaves them. `search` is how a release finds the lane to wake: `nextLane`
 abbrev pub afterAll : Search → State → List CallBytes → State
@@ -219,19 +214,19 @@ range first (suc count) = first ∷ range (suc first) count
 
 -- ---- the claim
 module _ (search : Search) (book : List ℕ) where
-  -- the entries of a list from the start, and of a stretch `later` after the calls `early`
+  -- "Its list starts with an unopened line and a lent buffer of any length and any bytes": the entries of a list, and of a stretch `later` after the calls `early`
   abbrev pub entriesOf : List CallBytes → List Entry
-  entriesOf early = entries search (start book) early
+  entriesOf early = entries search (fresh book) early
 
   abbrev pub entriesAfter : List CallBytes → List CallBytes → List Entry
-  entriesAfter early later = entries search (afterAll search (start book) early) later
+  entriesAfter early later = entries search (afterAll search (fresh book) early) later
 
   -- one call after the calls `early`, with what its answer says
   abbrev pub entryAfter : List CallBytes → CallBytes → Entry
-  entryAfter early g = entry g (saidTo search (afterAll search (start book) early) g)
+  entryAfter early g = entry g (saidTo search (afterAll search (fresh book) early) g)
 
   abbrev pub pointerAfter : List CallBytes → ℕ
-  pointerAfter early = afterAll search (start book) early .line .pointer .0
+  pointerAfter early = afterAll search (fresh book) early .line .pointer .0
 
   -- N after the calls `early`; and among the calls `later` that follow: the accepted releases, the wakes of lane j, its accepted wants
   abbrev pub lanesAfter : List CallBytes → ℕ
@@ -269,7 +264,7 @@ module _ (search : Search) (book : List ℕ) where
 
   -- after the calls `early` the call by which lane h goes on would be accepted
   abbrev pub NextAccepted : List CallBytes → ℕ → Type 0
-  NextAccepted early h = saidTo search (afterAll search (start book) early) (nextCall h (status h off (entriesOf early))) .accepted ≡ true
+  NextAccepted early h = saidTo search (afterAll search (fresh book) early) (nextCall h (status h off (entriesOf early))) .accepted ≡ true
 
   -- the places handed out by `later`, after `early`, which ends with an opening, a change of view or a seek: first, first + 1, .. last − 1
   pub record InOrder (early later : List CallBytes) : Type 0 where

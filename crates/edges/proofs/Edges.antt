@@ -20,7 +20,7 @@ use Rattle.line.specs.declared.Lane.{Lane}
 use Rattle.line.specs.Line.{flagFor, hasTurn, idleLane, isGathered, isIdle, isWaiting, lane, on, phaseAt}
 use Rattle.line.specs.Sound.{sound}
 use Rattle.line.proofs.Facts.{Facts, good-of}
-use Rattle.line.proofs.Phases.{idle-is, isUp, up-kinds}
+use Rattle.line.proofs.Phases.{idle-is, isUp, up-kinds, waiting-up}
 use Rattle.waitlist.specs.NextLane.{firstRaised, nextLane, raised}
 use Rattle.waitlist.specs.declared.Wakes.{Wakes}
 use Rattle.waitlist.proofs.Nearest.{Next, distance-round, next-found, next-none}
@@ -42,9 +42,6 @@ use Rattle.sheet.specs.Print.{answerLines, answerWords, decimalIn, linebook, wo
 use Rattle.edges.specs.Edges.{Alone, Entered, Holder, OtherEdges, Release, StarredEdges, Waits, answerTo, enter0, enter1, enter2, isSound}
 
 -- ---- phases and answers
-waiting-up : (y : Phase) → isWaiting y ≡ true → isUp y ≡ true
-waiting-up y e = let k = up-kinds y in by-test (isUp y) (λ t. t) (λ f. let z = rw (e, f) at k in absurd (omega arith))
-
 turn-of : (y : Phase) → isUp y ≡ true → isWaiting y ≡ false → hasTurn y ≡ true
 turn-of y u e = let k = up-kinds y in by-test (hasTurn y) (λ t. t) (λ f. let z = rw (u, e, f) at k in absurd (omega arith))
 

@@ -3,7 +3,7 @@ ghost use mathlib.Core.Bool.{true};
 ghost use mathlib.Core.Path.{_≡_};
 ghost use lib.ListN.{length};
 ghost use Rattle.embed.specs.Embedded.{eventLength, eventRefusal, lengthOf, textBound};
-ghost use Rattle.whole_sheet.specs.Whole.{fresh};
+ghost use Rattle.steps.specs.State.{fresh};
 ghost use Rattle.run.specs.Runs.{leftBy, printedBy, textFits, textIn};
 use event::Cursor;
 use event::Reading;

@@ -1,14 +1,13 @@
 -- The twelve kinds: an event is its kind and its fields, and back.
-use Prim.Native.Nat.{ℕ, zero, suc, _+_, _-_, _^_, _≤_, _<_}
-use mathlib.Core.Path.{_≡_, refl, sym, _∙_, ap}
-use mathlib.Core.Bool.{Bool, true, false, cond, _&&_, and-false, false≢true}
-use mathlib.Core.List.{List, [], _∷_, _++_}
+use Prim.Native.Nat.{ℕ, zero, suc, _-_, _≤_, _<_}
+use mathlib.Core.Path.{_≡_, refl, ap}
+use mathlib.Core.Bool.{true, and-false, false≢true}
+use mathlib.Core.List.{List}
 use native.Mathlib.Omega.{arith}
-use lib.Dec.{leb}
-use lib.IntN.{ℤ, pos, negsuc}
+use lib.IntN.{pos, negsuc}
 use lib.ListN.{drop, length, take, length-drop}
 use borrow.Author.Tests.{lt-leb}
-use Rattle.event.specs.BigEndian.{numberOf, signed, unsigned}
+use Rattle.event.specs.BigEndian.{numberOf}
 use Rattle.event.specs.Event.{bodyLength, eventOf, fieldLengths, fieldsIn, fieldsOf, isListed, kindOf}
 use Rattle.event.specs.Typed.{AreBytes, Fit, Typed}
 use Rattle.event.specs.declared.Event.{Event}

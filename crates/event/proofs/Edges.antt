@@ -1,11 +1,10 @@
 -- The edges of reading and writing events, by computation.
 use mathlib.Core.Path.{_≡_, refl}
-use mathlib.Core.List.{List, [], _∷_}
-use lib.IntN.{ℤ, pos, negsuc}
+use mathlib.Core.List.{[], _∷_}
+use lib.IntN.{pos, negsuc}
 use lib.ListN.{replicate}
-use Rattle.view.specs.View.{place}
-use Rattle.event.specs.BigEndian.{bigEndian, numberOf, signed, unsigned}
-use Rattle.event.specs.Event.{bodyLength, bytesOf, callOf, cutShort, eventBytes, fieldsIn, given}
+use Rattle.event.specs.BigEndian.{bigEndian, numberOf}
+use Rattle.event.specs.Event.{bodyLength, bytesOf, fieldsIn}
 use Rattle.event.specs.ReadWrite.{readAt, writingOf, writtenTo}
 use Rattle.event.specs.declared.Event.{Event}
 use Rattle.event.specs.declared.Reading.{Reading}

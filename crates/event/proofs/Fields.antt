@@ -1,10 +1,10 @@
 -- Fields as bytes, for any list of field lengths: what is written is read back, and what is read is written back.
 use Prim.Native.Nat.{ℕ, zero, suc, _+_, _-_, _^_, _≤_, _<_}
-use mathlib.Core.Path.{_≡_, refl, sym, _∙_, ap}
+use mathlib.Core.Path.{_≡_, refl, sym, ap}
 use mathlib.Core.List.{List, [], _∷_, _++_, append-assoc}
 use native.Mathlib.Omega.{arith}
-use lib.ListN.{drop, getD, length, take, length-append, length-drop, length-take}
-use lib.Seq.{drop-at, getD-drop, getD-take, length-take-le, take-add, take-at}
+use lib.ListN.{drop, length, take, length-append, length-drop}
+use lib.Seq.{drop-at, getD-drop, length-take-le, take-add, take-at}
 use Rattle.lists.specs.Lists.{sumOf}
 use Rattle.event.specs.BigEndian.{bigEndian, numberOf}
 use Rattle.event.specs.Event.{bytesOf, fieldsIn}

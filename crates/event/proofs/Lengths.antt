@@ -1,15 +1,15 @@
 -- What is read at an index of a sheet: a listed event of at least two bytes, which the sheet has whole; or a kind byte and a refusal.
 use Prim.Native.Nat.{ℕ, _+_, _-_, _≤_, _<_}
-use mathlib.Core.Path.{_≡_, refl, sym, ap, _∙_}
-use mathlib.Core.Bool.{Bool, true, false, cond}
+use mathlib.Core.Path.{_≡_, ap}
+use mathlib.Core.Bool.{true}
 use mathlib.Core.List.{List}
 use native.Mathlib.Omega.{arith}
 use lib.Dec.{leb}
 use lib.ListN.{drop, getD, length, length-drop}
 use borrow.Author.Tests.{leb-false, leb-true}
 use Rattle.lists.proofs.Tests.{by-test}
-use Rattle.event.specs.Event.{bodyLength, callOf, eventOf, fieldLengths, fieldsIn, isListed, kindOf}
-use Rattle.event.specs.ReadWrite.{readAt, readingOf}
+use Rattle.event.specs.Event.{bodyLength, eventOf, fieldLengths, fieldsIn, isListed, kindOf}
+use Rattle.event.specs.ReadWrite.{readAt}
 use Rattle.event.specs.declared.Cursor.{Cursor}
 use Rattle.event.specs.declared.Event.{Event}
 use Rattle.event.specs.declared.Reading.{Reading}

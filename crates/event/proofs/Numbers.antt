@@ -1,15 +1,15 @@
 -- A number in big-endian bytes is read back, and bytes are written back; two's complement likewise.
 use Prim.Native.Nat.{ℕ, zero, suc, _+_, _-_, _*_, _/_, _%_, _^_, _≤_, _<_}
-use mathlib.Core.Path.{_≡_, refl, sym, _∙_, ap}
+use mathlib.Core.Path.{_≡_, refl, _∙_, ap}
 use mathlib.Core.Bool.{Bool, true, false, cond}
 use mathlib.Core.List.{List, [], _∷_, _++_}
 use native.Mathlib.Omega.{arith}
 use native.Mathlib.Nat.{add-mul, div-add-mod', div-eq-of-lt, div-lt-iff-lt-mul, mod-eq-of-lt, mod-lt, mul-assoc, mul-add-div-right, mul-add-mod-self-right, mul-le-mul-right, one-le-pow, pow-suc}
-use lib.Dec.{leb, ltb}
+use lib.Dec.{ltb}
 use lib.IntN.{ℤ, pos, negsuc}
-use lib.ListN.{getD, length, length-append}
+use lib.ListN.{length, length-append}
 use lib.Pow.{pow-add}
-use borrow.Author.Tests.{le-ltb, lt-ltb, ltb-false, ltb-true}
+use borrow.Author.Tests.{le-ltb, lt-ltb}
 use Rattle.event.specs.BigEndian.{bigEndian, numberOf, signed, unsigned}
 use Rattle.event.specs.Typed.{AreBytes, IsI32}
 

@@ -1,7 +1,7 @@
 -- "Written events read back the same and read events write back the same bytes": for every event, buffer, byte string and cursor.
-use Prim.Native.Nat.{ℕ, zero, suc, _+_, _-_, _≤_, _<_}
-use mathlib.Core.Path.{_≡_, refl, sym, _∙_, ap}
-use mathlib.Core.Bool.{Bool, true, false, cond, _&&_, false≢true}
+use Prim.Native.Nat.{ℕ, suc, _+_, _-_, _≤_, _<_}
+use mathlib.Core.Path.{_≡_, refl, _∙_, ap}
+use mathlib.Core.Bool.{Bool, true, false, cond, false≢true}
 use mathlib.Core.List.{List, [], _∷_, _++_}
 use native.Mathlib.Nat.{zero-add}
 use native.Mathlib.Numerals.{add-one}
@@ -11,7 +11,7 @@ use lib.ListN.{drop, getD, length, take, length-append, length-drop}
 use lib.Seq.{drop-append-add, drop-cons, getD-append-seam, length-take-le}
 use borrow.Author.Tests.{le-leb, leb-false, leb-true, lt-leb}
 use Rattle.event.specs.Event.{Call, bodyLength, bytesOf, callOf, cutShort, eventBytes, eventOf, fieldLengths, fieldsIn, fieldsOf, given, isListed, kindOf}
-use Rattle.event.specs.ReadWrite.{hasRoom, readAt, readingOf, writtenTo}
+use Rattle.event.specs.ReadWrite.{readAt, readingOf, writtenTo}
 use Rattle.event.specs.Typed.{AreBytes, Typed}
 use Rattle.event.specs.declared.Cursor.{Cursor}
 use Rattle.event.specs.declared.Event.{Event}

@@ -1,9 +1,9 @@
 -- Document 01, "Events": the kinds, the lengths of their bodies' fields, and events read from bytes and written as bytes.
-use Prim.Native.Nat.{ℕ, zero, suc, _+_, _-_}
-use mathlib.Core.Bool.{Bool, true, false, cond, _&&_}
+use Prim.Native.Nat.{ℕ, zero, suc, _+_}
+use mathlib.Core.Bool.{Bool, cond, _&&_}
 use mathlib.Core.List.{List, [], _∷_, _++_}
 use lib.ListN.{drop, getD, length, replicate, take}
-use lib.Dec.{leb, ltb, eqb}
+use lib.Dec.{leb}
 use Rattle.lists.specs.Lists.{sumOf}
 use Rattle.view.specs.View.{block, place}
 use Rattle.view.specs.declared.Block.{Block}

@@ -1,11 +1,10 @@
 -- An event read from lent bytes at a cursor, and an event written into a lent buffer, with the refusals 2 and 3.
 use Prim.Native.Nat.{ℕ, _+_}
-use mathlib.Core.Bool.{Bool, true, false, cond}
+use mathlib.Core.Bool.{Bool, cond}
 use mathlib.Core.List.{List, [], _∷_, _++_}
 use lib.ListN.{drop, getD, length}
 use lib.Dec.{leb}
 use Rattle.event.specs.Event.{Call, bodyLength, callOf, cutShort, eventBytes, fieldsOf, given, isListed, kindOf}
-use Rattle.event.specs.declared.Cursor.{Cursor}
 use Rattle.event.specs.declared.Event.{Event}
 use Rattle.event.specs.declared.Reading.{Reading}
 use Rattle.event.specs.declared.Writing.{Writing}

@@ -1,25 +1,25 @@
 -- The sound line as facts: what the test says of a line that passes it, and back.
-use Prim.Native.Nat.{ℕ, zero, suc, _+_, _-_, _≤_, _<_, min}
-use mathlib.Core.Path.{_≡_, refl, sym, ap, _∙_}
+use Prim.Native.Nat.{ℕ, _+_, _-_, _≤_, _<_, min}
+use mathlib.Core.Path.{_≡_, refl, ap, _∙_}
 use mathlib.Core.Logic.{_≢_}
-use mathlib.Core.Bool.{Bool, true, false, cond, not, _&&_, _||_}
+use mathlib.Core.Bool.{Bool, true}
 use mathlib.Core.List.{List, [], _∷_, map}
 use native.Mathlib.Omega.{arith}
-use native.Mathlib.Decide.{decLt, ℕ-discrete}
-use lib.ListN.{drop, getD, length, set, List·getD-map}
+use native.Mathlib.Decide.{decLt}
+use lib.ListN.{drop, getD, length, List·getD-map}
 use lib.Seq.{getD-drop}
 use lib.Dec.{eqb, leb, ltb}
 use borrow.Author.Tests.{eq-eqb, eqb-true, le-leb, leb-true, lt-ltb, ltb-true, ne-eqb}
-use Rattle.lists.specs.Lists.{all, any, bit, count, every, implies, pairwise, sameNumbers}
-use Rattle.lists.proofs.Tests.{and-both, and-left, and-right, both, by-test, clash, every-cons, every-nth, implies-from, implies-use}
-use Rattle.lists.proofs.Counts.{all-from, all-getD, all-none, any-count, any-none, count-any, count-four, count-map, count-same, count-split, count-zero, is-same, none-any, pairwise-at, pairwise-from, same-is}
+use Rattle.lists.specs.Lists.{all, any, count, every, pairwise}
+use Rattle.lists.proofs.Tests.{and-both, and-left, and-right, by-test, every-nth, implies-from, implies-use}
+use Rattle.lists.proofs.Counts.{all-from, all-getD, all-none, any-count, any-none, count-any, count-map, count-same, count-split, is-same, pairwise-at, pairwise-from, same-is}
 use Rattle.view.specs.View.{fits, viewOk}
 use Rattle.line.specs.declared.Phase.{Phase}
 use Rattle.line.specs.declared.Lane.{Lane}
 use Rattle.line.specs.declared.Line.{Line}
-use Rattle.line.specs.Line.{flagFor, hasTurn, idleLane, isBusy, isGathered, isIdle, isIdleOrGathered, isWaiting, mostLanes, mostPointer, on, phaseAt, Shaped}
-use Rattle.line.specs.Sound.{apart, apartLanes, busyOk, flagsOk, gatheredOk, gatheredTotal, numbersOk, openNumbers, pastOk, regionOk, sound, turnOk, unopenedNumbers, valueOk}
-use Rattle.line.proofs.Phases.{apart-idle, apart-sym, idle-is, isUp, no-value, phase-kinds, up-kinds, up-one}
+use Rattle.line.specs.Line.{flagFor, hasTurn, idleLane, isGathered, isIdle, isIdleOrGathered, isWaiting, mostLanes, mostPointer, on, phaseAt, Shaped}
+use Rattle.line.specs.Sound.{apart, apartLanes, busyOk, flagsOk, gatheredOk, gatheredTotal, numbersOk, openNumbers, pastOk, regionOk, sound, turnOk, valueOk}
+use Rattle.line.proofs.Phases.{apart-idle, apart-sym, idle-is, isUp, no-value, up-kinds, up-one}
 
 -- ---- the numbers of an open line
 pub record OpenNumbers (l : Line) (buffer : ℕ) : Type 0 where

@@ -1,13 +1,12 @@
 -- What holds of each phase by itself.
-use Prim.Native.Nat.{ℕ, _+_, _≤_}
-use mathlib.Core.Path.{_≡_, refl, sym, _∙_}
-use mathlib.Core.Bool.{Bool, true, false, not, _&&_, _||_, or-comm, and-comm, or-true, and-false}
+use Prim.Native.Nat.{_+_, _≤_}
+use mathlib.Core.Path.{_≡_, refl, sym}
+use mathlib.Core.Bool.{Bool, true, false, or-comm, and-comm, and-false}
 use native.Mathlib.Omega.{arith}
 use lib.Dec.{eqb, leb}
 use Rattle.lists.specs.Lists.{bit}
 use Rattle.lists.proofs.Tests.{clash}
 use Rattle.view.specs.declared.Place.{Place}
-use Rattle.line.specs.declared.Purpose.{Purpose}
 use Rattle.line.specs.declared.Phase.{Phase}
 use Rattle.line.specs.declared.Line.{Line}
 use Rattle.line.specs.Line.{byPhase, flagFor, hasTurn, isBusy, isGathered, isHolding, isIdle, isIdleOrGathered, isReading, isWaiting, isWoken, isWriting, placeIn, purposeIn, leftIn}
@@ -34,6 +33,15 @@ one-up (Phase.Holding p v) = refl
 one-up (Phase.BusyWriting n k) = refl
 one-up (Phase.BusyReading n k) = refl
 one-up (Phase.Gathered n) = refl
+
+pub waiting-up : (x : Phase) → isWaiting x ≡ true → isUp x ≡ true
+waiting-up Phase.Idle e = clash (sym e)
+waiting-up (Phase.Waiting p) e = refl
+waiting-up (Phase.Woken p v) e = clash (sym e)
+waiting-up (Phase.Holding p v) e = clash (sym e)
+waiting-up (Phase.BusyWriting n k) e = clash (sym e)
+waiting-up (Phase.BusyReading n k) e = clash (sym e)
+waiting-up (Phase.Gathered n) e = clash (sym e)
 
 pub flag-down : (x : Phase) → isUp x ≡ false → flagFor x ≡ 0
 flag-down Phase.Idle e = refl

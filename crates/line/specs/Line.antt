@@ -1,7 +1,6 @@
 -- Document 01, "The line": lanes and their phases, and the values that a line starts with.
-use Prim.Native.Nat.{ℕ, _+_}
+use Prim.Native.Nat.{ℕ}
 use mathlib.Core.Bool.{Bool, true, false, not, _&&_}
-use mathlib.Core.List.{List}
 use lib.ListN.{getD, length, replicate}
 use mathlib.Core.Path.{_≡_}
 use Rattle.view.specs.View.{place, plainView}

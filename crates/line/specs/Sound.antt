@@ -1,17 +1,16 @@
 -- Document 01, "Sound line", sentence by sentence, for any numbers that the types hold and any length of the lent buffer.
 use Prim.Native.Nat.{ℕ, _+_}
-use mathlib.Core.Bool.{Bool, true, false, cond, _&&_, _||_}
+use mathlib.Core.Bool.{Bool, cond, _&&_, _||_}
 use mathlib.Core.List.{List, [], _∷_, map}
 use lib.ListN.{drop}
 use lib.Dec.{leb, ltb, eqb}
 use Rattle.lists.specs.Lists.{all, any, count, every, implies, pairwise, sameNumbers, sumOf}
 use Rattle.view.specs.View.{fits, isPlain, viewOk}
 use Rattle.view.specs.declared.Place.{Place}
-use Rattle.view.specs.declared.View.{View}
 use Rattle.line.specs.declared.Phase.{Phase}
 use Rattle.line.specs.declared.Lane.{Lane}
 use Rattle.line.specs.declared.Line.{Line}
-use Rattle.line.specs.Line.{byPhase, countIn, flagFor, hasTurn, isBusy, isGathered, isIdle, isIdleOrGathered, isWriting, leastCapacity, leftIn, mostCapacity, mostLanes, mostPointer, on, placeIn}
+use Rattle.line.specs.Line.{countIn, flagFor, hasTurn, isBusy, isGathered, isIdle, isIdleOrGathered, isWriting, leastCapacity, leftIn, mostCapacity, mostLanes, mostPointer, on, placeIn}
 
 -- "An unopened line has N, capacity, size and pointer 0, and the plain view"
 abbrev pub unopenedNumbers : Line → Bool

@@ -1,15 +1,15 @@
 -- Laws of all, any, count, pairwise and sums, and of a list with one element changed.
 use Prim.Native.Nat.{ℕ, zero, suc, _+_, _≤_, _<_}
-use mathlib.Core.Path.{_≡_, refl, sym, ap, _∙_}
+use mathlib.Core.Path.{_≡_, refl, sym, ap}
 use mathlib.Core.Logic.{_≢_}
-use mathlib.Core.Bool.{Bool, true, false, not, _&&_, _||_}
+use mathlib.Core.Bool.{Bool, true, false, _||_}
 use mathlib.Core.List.{List, [], _∷_, map}
 use native.Mathlib.Omega.{arith}
 use native.Mathlib.Nat.{not-suc-le-zero, le-of-suc-le-suc, suc-inj}
-use lib.ListN.{drop, getD, length, set}
+use lib.ListN.{getD, length, set}
 use lib.Dec.{eqb}
 use borrow.Author.Tests.{eqb-true, eq-eqb}
-use Rattle.lists.specs.Lists.{all, any, bit, count, pairwise, sameNumbers, sumOf}
+use Rattle.lists.specs.Lists.{all, any, bit, count, pairwise, sameNumbers}
 use Rattle.lists.proofs.Tests.{and-both, and-left, and-right, by-test, clash}
 
 pub bit-zero : (b : Bool) → bit b ≡ 0 → b ≡ false

@@ -5,10 +5,10 @@ use mathlib.Core.Bool.{Bool, true, false, _&&_, _||_}
 use mathlib.Core.List.{List, [], _∷_, map}
 use native.Mathlib.Omega.{arith}
 use lib.ListN.{drop}
-use lib.Dec.{eqb, ltb}
-use borrow.Author.Tests.{eqb-true, lt-ltb}
-use Rattle.lists.specs.Lists.{all, any, bit, count, sameNumbers}
-use Rattle.lists.proofs.Tests.{and-both, and-left, and-right, clash}
+use lib.Dec.{ltb}
+use borrow.Author.Tests.{lt-ltb}
+use Rattle.lists.specs.Lists.{all, any, bit, count}
+use Rattle.lists.proofs.Tests.{and-both}
 
 or-positive : (b : Bool) (rest : Bool) (n : ℕ) → rest ≡ ltb 0 n → (b || rest) ≡ ltb 0 (bit b + n)
 or-positive true rest n e = sym (lt-ltb 0 (1 + n) (omega arith))

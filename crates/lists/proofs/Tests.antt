@@ -1,9 +1,10 @@
 -- Laws of tests: a Bool's two cases, conjunctions, implications.
-use Prim.Native.Nat.{ℕ, zero, suc}
+use Prim.Native.Nat.{ℕ, zero, suc, _<_}
 use mathlib.Core.Path.{_≡_, refl, sym, _∙_}
-use mathlib.Core.Bool.{Bool, true, false, cond, not, _&&_, _||_}
+use mathlib.Core.Bool.{Bool, true, false, cond, not, _&&_}
 use mathlib.Core.List.{List, [], _∷_}
 use native.Mathlib.Omega.{arith}
+use lib.Dec.{eqb}
 use lib.ListN.{getD}
 use Rattle.lists.specs.Lists.{every, implies}
 
@@ -38,6 +39,11 @@ implies-from false b f = refl
 pub not-of : (b : Bool) → b ≡ false → not b ≡ true
 not-of true e = clash e
 not-of false e = refl
+
+-- a number that is not 0
+pub not-zero : (n : ℕ) → eqb n 0 ≡ false → 0 < n
+not-zero zero e = clash e
+not-zero (suc n) e = omega arith
 
 -- either a test passes or it fails, with the equation
 pub by-test : {X : Type 0} (b : Bool) → (b ≡ true → X) → (b ≡ false → X) → X

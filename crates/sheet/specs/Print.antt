@@ -1,13 +1,12 @@
 -- Document 01, "One sheet, whole": what `linebook` prints of a sheet, to the byte.
-use Prim.Native.Nat.{ℕ, zero, suc, _+_, _*_, _/_, _%_, _^_}
-use mathlib.Core.Bool.{Bool, true, false, cond}
+use Prim.Native.Nat.{ℕ, zero, suc, _+_, _/_, _%_, _^_}
+use mathlib.Core.Bool.{cond}
 use mathlib.Core.List.{List, [], _∷_, _++_}
 use lib.ListN.{length, replicate}
 use lib.Dec.{ltb, leb}
 use Rattle.view.specs.declared.Place.{Place}
-use Rattle.line.specs.Line.{unopened}
 use Rattle.waitlist.specs.declared.Wakes.{Wakes}
-use Rattle.steps.specs.State.{State}
+use Rattle.steps.specs.State.{State, fresh}
 use Rattle.steps.specs.declared.Answer.{Answer}
 use Rattle.sheet.specs.Run.{Ran, run}
 use Rattle.sheet.specs.Text.{ascii}
@@ -79,7 +78,7 @@ abbrev pub mostSheet : ℕ
 mostSheet = 65536
 
 abbrev pub freshState : State
-freshState = record { line = unopened; book = replicate 65536 0 }
+freshState = fresh (replicate 65536 0)
 
 -- "(at most 65,536 bytes, else its one line is `sheet too long`)"
 unfoldable pub linebook : List ℕ → List ℕ

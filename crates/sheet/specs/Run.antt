@@ -1,14 +1,14 @@
 -- The run of a sheet: its events one after the other, on one line and one lent book.
-use Prim.Native.Nat.{ℕ, zero, suc, _+_}
-use mathlib.Core.Bool.{Bool, true, false, cond, not, _&&_}
+use Prim.Native.Nat.{ℕ, zero, suc}
+use mathlib.Core.Bool.{Bool, cond, not, _&&_}
 use mathlib.Core.List.{List, [], _∷_}
 use lib.ListN.{length}
 use lib.Dec.{leb}
 use Rattle.line.specs.Sound.{sound}
 use Rattle.event.specs.ReadWrite.{readAt}
 use Rattle.event.specs.declared.Reading.{Reading}
-use Rattle.steps.specs.Answer.{Said, saidBy}
-use Rattle.steps.specs.State.{Result, State}
+use Rattle.steps.specs.Answer.{saidBy}
+use Rattle.steps.specs.State.{State}
 use Rattle.steps.specs.Step.{callEvent}
 use Rattle.steps.specs.declared.Answer.{Answer}
 

@@ -1,29 +1,25 @@
 -- What an accepted step is, case by case, with its tests as facts. Later proofs have a clause for each case.
-use Prim.Native.Nat.{ℕ, zero, suc, _+_, _≤_, _<_}
+use Prim.Native.Nat.{ℕ, suc, _+_, _≤_, _<_}
 use mathlib.Core.Path.{_≡_, refl, sym, ap, _∙_, subst}
-use mathlib.Core.Bool.{Bool, true, false, cond, not, _&&_, _||_}
-use mathlib.Core.List.{List, [], _∷_}
-use native.Mathlib.Omega.{arith}
-use lib.ListN.{getD, length}
+use mathlib.Core.Bool.{Bool, true, false, not, _&&_, _||_}
+use lib.ListN.{length}
 use lib.IntN.{ℤ, pos, negsuc}
-use lib.Dec.{eqb, leb, ltb}
-use borrow.Author.Tests.{eqb-false, eqb-true, leb-false, leb-true, ltb-false, not-false, not-true}
-use Rattle.lists.specs.Lists.{all, any, count}
-use Rattle.lists.proofs.Tests.{and-both, and-left, and-right, both, by-test, clash}
-use Rattle.view.specs.View.{fits, place, viewOk}
+use lib.Dec.{leb, ltb}
+use borrow.Author.Tests.{eqb-true, leb-false, leb-true, ltb-false, not-false, not-true}
+use Rattle.lists.specs.Lists.{all, any}
+use Rattle.lists.proofs.Tests.{and-left, and-right, clash, not-zero}
+use Rattle.view.specs.View.{fits, viewOk}
 use Rattle.view.specs.declared.Place.{Place}
 use Rattle.line.specs.declared.Purpose.{Purpose}
 use Rattle.line.specs.declared.Phase.{Phase}
-use Rattle.line.specs.declared.Lane.{Lane}
-use Rattle.line.specs.Line.{holdsShared, holdsWhole, isGathered, isHolding, isIdle, isIdleOrGathered, isReading, isSharedRead, isSharedWrite, isWholeBook, isWoken, isWriting, leftIn, mostLanes, mostPointer, on, phaseAt, placeIn, purposeIn}
-use Rattle.line.specs.Sound.{gatheredTotal, sound}
+use Rattle.line.specs.Line.{holdsShared, holdsWhole, isGathered, isHolding, isIdle, isIdleOrGathered, isSharedRead, isSharedWrite, isWholeBook, leftIn, mostLanes, mostPointer, on, phaseAt, placeIn, purposeIn}
+use Rattle.line.specs.Sound.{gatheredTotal}
 use Rattle.line.proofs.Phases.{holding-is, idle-is, reading-is, woken-is, writing-is}
-use Rattle.waitlist.specs.NextLane.{nextLane}
 use Rattle.event.specs.Event.{Call, cutShort, given}
 use Rattle.event.specs.declared.Blocks.{Blocks}
 use Rattle.event.specs.declared.Event.{Event}
-use Rattle.steps.specs.State.{Result, State, leaves}
-use Rattle.steps.specs.Effects.{Search, allEntered, effect, entered, enterStep, freeStep, lookStep, openStep, othersDown, purposeOf, putStep, readStep, receiveStep, seekStep, seekTarget, takeStep, viewOf, viewStep, wantStep, writeStep}
+use Rattle.steps.specs.State.{Result, State}
+use Rattle.steps.specs.Effects.{Search, effect, entered, enterStep, freeStep, lookStep, openStep, purposeOf, putStep, readStep, receiveStep, seekStep, seekTarget, takeStep, viewOf, viewStep, wantStep, writeStep}
 use Rattle.steps.specs.Refusals.{allows, isOutside, noWakeYet, phaseOf}
 use Rattle.steps.specs.Step.{refuse, stepBy}
 use Rattle.steps.proofs.Lowest.{Decided, NotApplies, accepted, decided, refused}
@@ -62,10 +58,6 @@ pub data Steps (search : Search) (x : State) : Call → Result → Type 0 where
       → Steps search x (given (Event.Seek whence offset)) (seekStep x (pos n))
 
 -- ---- from tests that fail to facts
-some : (n : ℕ) → eqb n 0 ≡ false → 0 < n
-some zero e = clash e
-some (suc n) e = omega arith
-
 -- a holder of a shared purpose holds it for writing or for reading
 module _ (search : Search) (x : State) (i c : ℕ) (inside : i < x .line .lanes) where
   take-case : (p : Purpose) (v : Place) → phaseAt (x .line) i ≡ Phase.Holding p v → isWholeBook p ≡ false
@@ -145,11 +137,11 @@ module _ (search : Search) (x : State) where
   accepted-case (Event.Enter i c) f =
       enters i c (leb-false (x .line .lanes) i (f 7)) (idle-is _ (allow (Event.Enter i c) f)) (not-false _ (f 10)) (not-false _ (f 15))
   accepted-case (Event.View displacement extent used blocks) f =
-      views displacement extent used blocks (some (x .line .lanes) (f 3)) (not-false _ (f 9)) (or-not (all (on isIdle) (x .line .lane)) (f 10))
+      views displacement extent used blocks (not-zero (x .line .lanes) (f 3)) (not-false _ (f 9)) (or-not (all (on isIdle) (x .line .lane)) (f 10))
   accepted-case (Event.Seek whence offset) f =
       let r = inside-is (seekTarget (x .line) whence offset) (f 14) in
       subst (λ (z : ℤ). Steps search x (given (Event.Seek whence offset)) (seekStep x z)) (sym (r .1))
-      (seeks whence offset (r .0) (some (x .line .lanes) (f 3)) (r .1) (r .2) (or-not (all (on isIdle) (x .line .lane)) (f 10)))
+      (seeks whence offset (r .0) (not-zero (x .line .lanes) (f 3)) (r .1) (r .2) (or-not (all (on isIdle) (x .line .lane)) (f 10)))
   accepted-case Event.Unlisted f = clash (f 1)
 
   pub steps : (c : Call) → Steps search x c (stepBy search x c)

@@ -50,6 +50,10 @@ takes-effect search x e a = none-accepted search x (given e) (accepted-none sear
 pub by-effect : (search : Search) (x : State) (e : Event) (P : Result → Type 0) → Accepts search x e → P (effect search x e) → P (stepBy search x (given e))
 by-effect search x e P a p = rw (takes-effect search x e a) p
 
+-- ---- a take writes no record: writes come after the release
+pub take-keeps-book : (search : Search) (x : State) (i c : ℕ) → Accepts search x (Event.Take i c) → leftBy search x (Event.Take i c) .book ≡ x .book
+take-keeps-book search x i c a = by-effect search x (Event.Take i c) (λ (r : Result). r .after .book ≡ x .book) a refl
+
 -- ---- the position at which a record is written or read is the view's for its place, and no other
 -- the record is put at place k
 pub record Written (x : State) (k : Place) (content : ℕ) (r : Result) : Type 0 where

@@ -1,8 +1,7 @@
 -- An accepted call leaves a sound line sound: reached from opening or not, for any length of the lent buffer.
 use Prim.Native.Nat.{ℕ, zero, suc, _+_, _-_, _≤_, _<_, min, max}
-use mathlib.Core.Path.{_≡_, refl, sym, ap, _∙_, subst}
-use mathlib.Core.Logic.{_≢_}
-use mathlib.Core.Bool.{Bool, true, false, cond, not, _&&_, _||_}
+use mathlib.Core.Path.{_≡_, refl, sym, ap, _∙_}
+use mathlib.Core.Bool.{Bool, true, false, cond, _&&_, _||_}
 use mathlib.Core.List.{List, [], _∷_, _++_, map}
 use native.Mathlib.Omega.{arith}
 use native.Mathlib.Decide.{decLt}
@@ -12,9 +11,9 @@ use lib.Seq.{length-sets, set-getD}
 use lib.Dec.{eqb, leb}
 use borrow.Author.Tests.{eq-eqb, eqb-true, le-leb, leb-true}
 use Rattle.lists.specs.Lists.{all, any, bit, count, every, implies}
-use Rattle.lists.proofs.Tests.{and-both, and-left, and-right, at-test, both, by-test, clash, every-nth, implies-from, implies-use}
+use Rattle.lists.proofs.Tests.{and-both, and-left, and-right, at-test, both, every-nth, implies-from, implies-use}
 use Rattle.lists.proofs.Counts.{all-count, all-getD, all-none, all-set, any-none, bit-zero, count-pos}
-use Rattle.view.specs.View.{fits, place, plainView, positionOf, recordEnd, viewOk}
+use Rattle.view.specs.View.{fits, place, positionOf, recordEnd, viewOk}
 use Rattle.view.specs.declared.Place.{Place}
 use Rattle.view.specs.declared.View.{View}
 use Rattle.view.proofs.Laws.{fits-end, fits-low, fits-part, plain-ok}
@@ -22,21 +21,21 @@ use Rattle.line.specs.declared.Purpose.{Purpose}
 use Rattle.line.specs.declared.Phase.{Phase}
 use Rattle.line.specs.declared.Lane.{Lane}
 use Rattle.line.specs.declared.Line.{Line}
-use Rattle.line.specs.Line.{flagFor, hasTurn, idleLane, isBusy, isGathered, isIdle, isIdleOrGathered, isWriting, lane, leftIn, mostLanes, mostPointer, on, phaseAt, placeIn, Shaped, unopened}
+use Rattle.line.specs.Line.{flagFor, hasTurn, idleLane, isBusy, isGathered, isIdle, isWriting, lane, leftIn, mostLanes, mostPointer, on, phaseAt, placeIn, Shaped, unopened}
 use Rattle.line.specs.Sound.{apart, gatheredTotal, numbersOk, regionEnd, regionOk, sound, valueOk}
 use Rattle.line.proofs.Phases.{flag-down, isUp, no-overlap, no-region, no-value, one-up}
-use Rattle.line.proofs.Facts.{Base, Facts, Gathering, Good, OpenNumbers, Turn, good-of, open-ok, sound-of, when-open}
+use Rattle.line.proofs.Facts.{Facts, Good, OpenNumbers, good-of, open-ok, sound-of, when-open}
 use Rattle.waitlist.specs.NextLane.{nextLane}
 use Rattle.waitlist.specs.declared.Wakes.{Wakes}
 use Rattle.event.specs.BigEndian.{bigEndian}
 use Rattle.event.specs.Event.{Call}
-use Rattle.steps.specs.State.{Result, State, withFlag, withLanes, withPhase, withPointer, withSize, withView}
-use Rattle.steps.specs.Effects.{allEntered, busyFor, entered, freed, grown, lowered, nextOf, oneLess, opened, othersDown, purposeOf, raisedAs, reading, released, bookWith, taken, viewOf, wake, writing}
+use Rattle.steps.specs.State.{Result, State, withPhase, withPointer, withSize, withView}
+use Rattle.steps.specs.Effects.{allEntered, entered, freed, grown, nextOf, oneLess, opened, othersDown, purposeOf, raisedAs, reading, bookWith, taken, viewOf, wake, writing}
 use Rattle.steps.specs.Step.{step}
 use Rattle.steps.proofs.Cases.{Steps, enters, frees, looks, opens, puts, reads, receives, refuses, seeks, steps, take-reads, take-writes, views, wants, writes}
 use Rattle.steps.proofs.Ordered.{busy-by, complete-facts, enter-facts}
 use Rattle.steps.proofs.Release.{Leaving, none-gathered, release-facts}
-use Rattle.steps.proofs.Stored.{flags-same, flags-set, kinds-count, placed, ready-count, ready-length, recount, region-at, short, store-base}
+use Rattle.steps.proofs.Stored.{flags-same, flags-set, kinds-count, placed, ready-length, recount, region-at, short, store-base}
 
 abbrev pub GoodState : State → Type 0
 GoodState x = Good (x .line) (length (x .book))

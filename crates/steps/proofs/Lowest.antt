@@ -1,8 +1,8 @@
 -- A call is refused with the lowest number that applies, accepted exactly where none applies, and a refused call changes nothing.
-use Prim.Native.Nat.{ℕ, zero, suc, _+_, _≤_, _<_}
-use mathlib.Core.Path.{_≡_, refl, sym, ap, _∙_, subst}
+use Prim.Native.Nat.{ℕ, zero, suc, _+_, _<_}
+use mathlib.Core.Path.{_≡_, refl, sym, ap, _∙_}
 use mathlib.Core.Logic.{_⊎_, inl, inr}
-use mathlib.Core.Bool.{Bool, true, false, cond, not, _&&_, _||_}
+use mathlib.Core.Bool.{Bool, true, false, not}
 use mathlib.Core.List.{List, [], _∷_}
 use native.Mathlib.Omega.{arith}
 use native.Mathlib.Nat.{suc-inj}
@@ -15,7 +15,7 @@ use Rattle.view.specs.declared.Place.{Place}
 use Rattle.line.specs.Line.{phaseAt, placeIn}
 use Rattle.event.specs.Event.{Call, cutShort, given, isListed, kindOf}
 use Rattle.event.specs.declared.Event.{Event}
-use Rattle.steps.specs.Answer.{Said, saidBy}
+use Rattle.steps.specs.Answer.{saidBy}
 use Rattle.steps.specs.State.{Result, State}
 use Rattle.steps.specs.Effects.{Search, allEntered, effect, entered, othersDown, recordAt}
 use Rattle.steps.specs.Refusals.{reasons}

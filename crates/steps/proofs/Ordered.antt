@@ -1,40 +1,35 @@
 -- An ordered call keeps a sound line sound: a lane enters, and the last one to enter starts all of them.
-use Prim.Native.Nat.{ℕ, zero, suc, _+_, _≤_, _<_, min}
+use Prim.Native.Nat.{ℕ, zero, suc, _+_, _≤_, _<_}
 use mathlib.Core.Path.{_≡_, refl, sym, ap, _∙_}
 use mathlib.Core.Logic.{_≢_}
-use mathlib.Core.Bool.{Bool, true, false, cond, not, _&&_, _||_, or-true, and-true}
+use mathlib.Core.Bool.{Bool, true, false, cond, _&&_}
 use mathlib.Core.List.{List, [], _∷_, map}
 use native.Mathlib.Omega.{arith}
-use native.Mathlib.Decide.{decLt, ℕ-discrete}
+use native.Mathlib.Decide.{decLt}
 use lib.ListN.{getD, length, replicate}
-use lib.Dec.{eqb, leb}
+use lib.Dec.{eqb}
 use borrow.Author.Tests.{eqb-false, eqb-true, le-leb}
-use Rattle.lists.specs.Lists.{all, any, bit, count, every, implies, sumOf}
-use Rattle.lists.proofs.Tests.{and-both, and-left, and-right, at-test, clash, implies-from}
+use Rattle.lists.specs.Lists.{all, bit, count}
+use Rattle.lists.proofs.Tests.{and-both, and-left, and-right, at-test, clash, implies-from, not-zero}
 use Rattle.lists.proofs.Counts.{all-none, all-set, bit-zero}
 use Rattle.view.specs.View.{fits, place, viewOk}
 use Rattle.view.specs.declared.Place.{Place}
-use Rattle.view.specs.declared.View.{View}
 use Rattle.view.proofs.Laws.{fits-part}
 use Rattle.line.specs.declared.Phase.{Phase}
 use Rattle.line.specs.declared.Lane.{Lane}
 use Rattle.line.specs.declared.Line.{Line}
-use Rattle.line.specs.Line.{countIn, flagFor, hasTurn, idleLane, isBusy, isGathered, isIdle, isIdleOrGathered, isWriting, lane, leftIn, on, phaseAt, placeIn}
+use Rattle.line.specs.Line.{countIn, flagFor, hasTurn, idleLane, isBusy, isGathered, isIdleOrGathered, lane, on, phaseAt}
 use Rattle.line.specs.Sound.{apart, gatheredTotal, regionEnd, regionOk, valueOk}
 use Rattle.line.proofs.Phases.{apart-idle, apart-sym, flag-down, isUp, no-value}
-use Rattle.line.proofs.Facts.{Base, Facts, Gathering, Turn, up-split}
+use Rattle.line.proofs.Facts.{Base, Facts, up-split}
 use Rattle.steps.specs.State.{withLanes, withPointer}
 use Rattle.steps.specs.Effects.{allEntered, entered, started, startedAt, writing}
 use Rattle.steps.proofs.Stored.{flags-same, kinds-count, ready-count, recount, store-base}
 
 -- ---- a region of n records from a place, or none where n is 0
-some : (n : ℕ) → eqb n 0 ≡ false → 0 < n
-some zero e = clash e
-some (suc n) e = omega arith
-
 -- what holds of an idle lane, and of a busy one that has a record left
 pub busy-by : (P : Phase → Type 0) (n : ℕ) (y : Phase) → (n ≡ 0 → P Phase.Idle) → (0 < n → P y) → P (cond (eqb n 0) Phase.Idle y)
-busy-by P n y a b = at-test P (eqb n 0) Phase.Idle y (λ t. a (eqb-true n 0 t)) (λ f. b (some n f))
+busy-by P n y a b = at-test P (eqb n 0) Phase.Idle y (λ t. a (eqb-true n 0 t)) (λ f. b (not-zero n f))
 
 abbrev start : ℕ → ℕ → Phase
 start n k = writing n (place k)

@@ -1,17 +1,15 @@
 -- A release keeps a sound line sound, and wakes the nearest lane that waits.
-use Prim.Native.Nat.{ℕ, zero, suc, _+_, _≤_, _<_, min}
-use mathlib.Core.Path.{_≡_, refl, sym, ap, _∙_, subst}
+use Prim.Native.Nat.{ℕ, _+_, _≤_, _<_}
+use mathlib.Core.Path.{_≡_, refl, sym, ap, _∙_}
 use mathlib.Core.Logic.{_≢_}
-use mathlib.Core.Bool.{Bool, true, false, not}
-use mathlib.Core.List.{List, [], _∷_, map}
+use mathlib.Core.Bool.{Bool, true, false}
 use native.Mathlib.Omega.{arith}
-use native.Mathlib.Decide.{decLt, ℕ-discrete}
+use native.Mathlib.Decide.{decLt}
 use lib.ListN.{getD, length, set, List·getD-map}
-use lib.Seq.{getD-set-same}
 use lib.Dec.{eqb}
 use borrow.Author.Tests.{eq-eqb}
 use Rattle.lists.specs.Lists.{all, bit, count}
-use Rattle.lists.proofs.Tests.{both, by-test, clash}
+use Rattle.lists.proofs.Tests.{both}
 use Rattle.lists.proofs.Counts.{all-none, all-set, count-find, count-pos, count-zero}
 use Rattle.view.specs.declared.Place.{Place}
 use Rattle.line.specs.declared.Purpose.{Purpose}
@@ -21,7 +19,7 @@ use Rattle.line.specs.declared.Line.{Line}
 use Rattle.line.specs.Line.{flagFor, hasTurn, idleLane, isGathered, lane, on, phaseAt, purposeIn}
 use Rattle.line.specs.Sound.{apart, regionOk, valueOk}
 use Rattle.line.proofs.Phases.{isUp, no-value, one-up, waiting-is}
-use Rattle.line.proofs.Facts.{Base, Facts, Gathering, Turn}
+use Rattle.line.proofs.Facts.{Base, Facts, Gathering}
 use Rattle.waitlist.specs.Distance.{distance}
 use Rattle.waitlist.specs.NextLane.{nextLane, raised}
 use Rattle.waitlist.specs.declared.Wakes.{Wakes}

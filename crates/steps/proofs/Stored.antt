@@ -1,28 +1,28 @@
 -- A line with another phase for one lane: what holds of its lanes and flags is kept.
-use Prim.Native.Nat.{ℕ, zero, suc, _+_, _≤_, _<_, min}
+use Prim.Native.Nat.{ℕ, _+_, _≤_, _<_}
 use mathlib.Core.Path.{_≡_, refl, sym, ap, _∙_}
 use mathlib.Core.Logic.{_≢_}
-use mathlib.Core.Bool.{Bool, true, false, not, _&&_, _||_}
+use mathlib.Core.Bool.{Bool, true}
 use mathlib.Core.List.{List, [], _∷_, map}
 use native.Mathlib.Omega.{arith}
-use native.Mathlib.Decide.{decLt, ℕ-discrete}
+use native.Mathlib.Decide.{ℕ-discrete}
 use lib.ListN.{getD, length, length-set, set}
 use lib.Seq.{getD-set-other, getD-set-same, map-set-same}
-use lib.Dec.{eqb, leb}
+use lib.Dec.{leb}
 use borrow.Author.Tests.{le-leb, leb-true}
 use Rattle.lists.specs.Lists.{all, bit, count, every, implies}
-use Rattle.lists.proofs.Tests.{both, by-test, clash, every-nth, implies-from, implies-use}
+use Rattle.lists.proofs.Tests.{every-nth, implies-from, implies-use}
 use Rattle.lists.proofs.Counts.{all-count, all-getD, all-mono, all-set, count-four, count-set, count-split, map-set}
 use Rattle.view.specs.View.{fits}
 use Rattle.view.specs.declared.Place.{Place}
 use Rattle.line.specs.declared.Phase.{Phase}
 use Rattle.line.specs.declared.Lane.{Lane}
 use Rattle.line.specs.declared.Line.{Line}
-use Rattle.line.specs.Line.{flagFor, hasTurn, idleLane, isBusy, isGathered, isIdle, isIdleOrGathered, isWriting, lane, leftIn, mostLanes, on, phaseAt, placeIn}
-use Rattle.line.specs.Sound.{apart, regionEnd, regionOk, valueOk}
+use Rattle.line.specs.Line.{flagFor, idleLane, isBusy, isGathered, isIdle, isIdleOrGathered, isWriting, lane, leftIn, on, phaseAt, placeIn}
+use Rattle.line.specs.Sound.{apart, regionEnd, regionOk}
 use Rattle.line.proofs.Phases.{apart-sym, isUp, phase-kinds, ready-kinds}
-use Rattle.line.proofs.Facts.{Base, Facts, Gathering}
-use Rattle.steps.specs.State.{withPhase, withPointer}
+use Rattle.line.proofs.Facts.{Base, Gathering}
+use Rattle.steps.specs.State.{withPointer}
 
 -- lane i in phase y, with this pointer and these flags
 abbrev pub stored : Line → ℕ → Phase → Place → List ℕ → Line

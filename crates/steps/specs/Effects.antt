@@ -1,8 +1,8 @@
 -- Document 01, "Events": what each call answers and leaves where it is accepted.
 use Prim.Native.Nat.{ℕ, zero, suc, _+_, _-_, max}
-use mathlib.Core.Bool.{Bool, true, false, cond}
+use mathlib.Core.Bool.{Bool, cond}
 use mathlib.Core.List.{List, [], _∷_, _++_}
-use lib.ListN.{drop, getD, length, replicate, set, take}
+use lib.ListN.{drop, replicate, set, take}
 use lib.Seq.{sets}
 use lib.IntN.{ℤ, pos, negsuc, _+ℤ_}
 use lib.Dec.{leb, eqb}
@@ -14,7 +14,7 @@ use Rattle.line.specs.declared.Purpose.{Purpose}
 use Rattle.line.specs.declared.Phase.{Phase}
 use Rattle.line.specs.declared.Lane.{Lane}
 use Rattle.line.specs.declared.Line.{Line}
-use Rattle.line.specs.Line.{countIn, idleLane, isGathered, lane, leftIn, mostLanes, on, phaseAt, placeIn, purposeIn}
+use Rattle.line.specs.Line.{countIn, idleLane, isGathered, lane, mostLanes, on, phaseAt, placeIn, purposeIn}
 use Rattle.line.specs.Sound.{gatheredTotal}
 use Rattle.waitlist.specs.declared.Wakes.{Wakes}
 use Rattle.event.specs.BigEndian.{bigEndian, numberOf}

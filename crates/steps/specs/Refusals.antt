@@ -1,6 +1,6 @@
 -- Document 01, "Reasons for refusing": each reason by itself, in the paper's order (14 before 13, which excepts it).
-use Prim.Native.Nat.{ℕ, zero, suc, _+_}
-use mathlib.Core.Bool.{Bool, true, false, cond, not, _&&_, _||_}
+use Prim.Native.Nat.{ℕ, _+_}
+use mathlib.Core.Bool.{Bool, true, false, not, _&&_, _||_}
 use mathlib.Core.List.{List, [], _∷_}
 use lib.ListN.{getD, length}
 use lib.IntN.{ℤ, pos, negsuc}
@@ -9,7 +9,6 @@ use Rattle.lists.specs.Lists.{all, any}
 use Rattle.view.specs.View.{fits, viewOk}
 use Rattle.view.specs.declared.Place.{Place}
 use Rattle.line.specs.declared.Phase.{Phase}
-use Rattle.line.specs.declared.Line.{Line}
 use Rattle.line.specs.Line.{holdsShared, holdsWhole, isGathered, isIdle, isIdleOrGathered, isReading, isSharedRead, isSharedWrite, isWaiting, isWoken, isWriting, leastCapacity, mostCapacity, mostLanes, mostPointer, on, phaseAt, placeIn, purposeIn}
 use Rattle.line.specs.Sound.{gatheredTotal, sound}
 use Rattle.event.specs.Event.{Call, cutShort, fieldsOf, given, isListed, kindOf}

@@ -7,13 +7,17 @@ use Rattle.view.specs.declared.View.{View}
 use Rattle.line.specs.declared.Phase.{Phase}
 use Rattle.line.specs.declared.Line.{Line}
 use Rattle.line.specs.declared.Lane.{Lane}
-use Rattle.line.specs.Line.{lane}
+use Rattle.line.specs.Line.{lane, unopened}
 use Rattle.steps.specs.declared.Answer.{Answer}
 
 -- the line and the lent book (the file of source document 001), byte by byte
 pub record State : Type 0 where
   pub line : Line
   pub book : List ℕ
+
+-- an unopened line and a lent book
+abbrev pub fresh : List ℕ → State
+fresh book = record { line = unopened; book = book }
 
 -- what a call gives: its answer, and the line and the book that it leaves
 pub record Result : Type 0 where

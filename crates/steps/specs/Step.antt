@@ -1,10 +1,10 @@
 -- One step: the lowest reason that applies refuses the call, and else it takes effect. The same step serves every way to call.
-use Prim.Native.Nat.{ℕ, suc, _+_}
-use mathlib.Core.Bool.{Bool, true, false, cond}
+use Prim.Native.Nat.{ℕ, suc}
+use mathlib.Core.Bool.{Bool, cond}
 use mathlib.Core.List.{List, [], _∷_}
 use Rattle.event.specs.Event.{Call, callOf, cutShort, given}
 use Rattle.event.specs.declared.Event.{Event}
-use Rattle.steps.specs.State.{Result, State, leaves}
+use Rattle.steps.specs.State.{Result, State}
 use Rattle.waitlist.specs.NextLane.{nextLane}
 use Rattle.steps.specs.Effects.{Search, effect}
 use Rattle.steps.specs.Refusals.{reasons}

@@ -2,20 +2,14 @@
 use Prim.Native.Nat.{ℕ}
 use mathlib.Core.Bool.{Bool, cond}
 use mathlib.Core.List.{List}
-use lib.Dec.{leb, ltb}
+use lib.Dec.{ltb}
 use lib.ListN.{length}
 use lib.Seq.{sets}
-use Rattle.line.specs.Line.{unopened}
-use Rattle.steps.specs.Meets.{stateOf}
-use Rattle.steps.specs.State.{State}
+use Rattle.steps.specs.State.{fresh}
 use Rattle.sheet.specs.Print.{mostSheet}
 use Rattle.sheet.specs.Text.{ascii}
 use Rattle.print.specs.declared.Printed.{Printed}
 use Rattle.run.specs.Runs.{leftBy, printedBy, textIn}
-
--- an unopened line over a lent book
-abbrev pub fresh : List ℕ → State
-fresh book = stateOf unopened book
 
 abbrev pub isTooLong : List ℕ → Bool
 isTooLong sheet = ltb mostSheet (length sheet)
