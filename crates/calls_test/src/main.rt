@@ -1,4 +1,4 @@
-// Runs the cases of stdin on the entries of the crate `calls`; stdout has document 01's answers.
+// Runs the cases of stdin on the entries of the crates `calls` and `event_calls`; stdout has document 01's answers.
 mod answers;
 mod book;
 mod differences;

@@ -15,6 +15,7 @@ pub struct Blocks {
 }
 
 // An event: the kinds 01 to 0C in order, with the fields in the body's order, and a case for any other kind.
+// `content` is document 01's record, as a number; `used` is its blocks, the number of those in use.
 pub enum Event {
     Open {
         lanes: u8,

@@ -1,4 +1,4 @@
-// Tests and numbers of a lane's phase, each equal to its definition.
+// Tests and numbers of a lane's phase, each equal to its definition. Each match lists every phase, so that a new one is looked at in each.
 ghost use mathlib.Core.Path.{_≡_};
 ghost use Rattle.line.specs.Line.{countIn, flagFor, hasTurn, holdsWhole, isBusy, isGathered, isIdle, isIdleOrGathered, isWholeBook, isWriting, leftIn, placeIn};
 use line::Phase;

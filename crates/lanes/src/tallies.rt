@@ -20,6 +20,7 @@ pub struct Tally {
     pub total: u32,
 }
 
+// A test as a number.
 fn one(b: bool) -> usize
     ensures { λ r. ⌜ (r ≡ bit b) × (r ≤ 1) ⌝ }
 {
@@ -29,6 +30,7 @@ fn one(b: bool) -> usize
     0
 }
 
+// Counts all lanes in one pass.
 pub fn tally_of(lane: [Lane; MOST_LANES]) -> Tally
     ensures { λ r. ⌜ r ≡ tallyOf lane ⌝ }
 {

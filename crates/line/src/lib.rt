@@ -42,6 +42,7 @@ pub struct Line {
 }
 
 impl Lane {
+    // A lane that wants nothing.
     pub fn idle() -> Lane
         ensures { λ r. ⌜ r ≡ idleLane ⌝ }
     {
@@ -50,6 +51,7 @@ impl Lane {
 }
 
 impl Line {
+    // The line before 01: no lanes, and the plain view.
     pub fn unopened() -> Line
         ensures { λ r. ⌜ r ≡ unopened ⌝ }
     {

@@ -10,6 +10,7 @@ pub struct Step {
     pub at: usize,
 }
 
+// The lent sheet, and the index at which the next event starts.
 pub struct Reader<'a> {
     pub sheet: &'a [u8],
     pub at: usize,

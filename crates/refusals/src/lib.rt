@@ -5,6 +5,7 @@ use line::Line;
 use steps::Answer;
 use steps::Outcome;
 
+// The answer is the number alone, and nothing of the line changes.
 pub fn refuse(line: Line, number: u8) -> Outcome
     ensures { λ r. ⌜ r ≡ refused line number ⌝ }
 {

@@ -4,7 +4,7 @@ use view::Place;
 use view::Position;
 use waitlist::Wakes;
 
-// The answer to a call, a case for each word of document 01, and a refusal with its number.
+// The answer to a call, a case for each word of document 01, and a refusal with its number. `content` is a record, as a number.
 pub enum Answer {
     Open {
         lanes: u8,

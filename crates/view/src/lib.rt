@@ -8,7 +8,7 @@ ghost use Rattle.view.specs.View.{place, isUnused, inOrder, viewOk, show
 // A place counts records as the view shows them (MPI-IO: an offset in etypes).
 pub struct Place(pub u32);
 
-// A position counts bytes from the start of the book. A put's place is any 32-bit number, so a position needs more.
+// A position counts bytes from the start of the book (MPI-IO: an absolute offset in bytes). A put's place is any 32-bit number, so a position needs more.
 pub struct Position(pub u64);
 
 // A run of records within a tile (MPI-IO: a block of the filetype).
@@ -17,7 +17,7 @@ pub struct Block {
     pub length: u16,
 }
 
-// A view: displacement in bytes, extent of a tile in records, and the blocks in use; unused blocks are zero.
+// A view (MPI-IO: a file view): displacement in bytes, extent of a tile (a copy of the filetype) in records, and the blocks in use; unused blocks are zero.
 pub struct View {
     pub displacement: u32,
     pub extent: u16,
@@ -26,6 +26,7 @@ pub struct View {
 }
 
 impl Block {
+    // A block that is not in use.
     pub const UNUSED: Block = Block {
         start: 0,
         length: 0,
