@@ -22,7 +22,7 @@ use Rattle.steps.proofs.Chains.{look-chain, put-chain, read-chain, write-chain}
 use Rattle.changes.specs.Change.{atLane, changed, entryOf, refused, seenOf}
 use Rattle.changes.specs.declared.Seen.{Seen}
 use Rattle.changes.proofs.Steps.{Gives, guarded, lane-step, refused-step, unchanged}
-use Rattle.records.specs.Records.{bookAfter, lookAt, putAt, readAt, readBy, recordFound, recordIn, recordPut, writeAt, writtenBy}
+use Rattle.records.specs.Records.{bookAfter, lookAt, putAt, readAt, readBy, recordFound, recordPut, writeAt, writtenBy}
 
 -- the steps past the tests of the lane, by the lane's phase
 abbrev writeRest : State → ℕ → ℕ → Phase → Result

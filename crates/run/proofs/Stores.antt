@@ -1,6 +1,6 @@
 -- The stores of a lane's change in the line that a run keeps: they leave the line that the step leaves.
 use Prim.Native.Nat.{ℕ, _≤_, _<_}
-use mathlib.Core.Path.{_≡_, refl, sym, ap, _∙_}
+use mathlib.Core.Path.{_≡_, sym, ap, _∙_}
 use mathlib.Core.Bool.{Bool, true}
 use mathlib.Core.List.{List}
 use lib.ListN.{getD, length}
@@ -18,7 +18,7 @@ use Rattle.steps.specs.Effects.{woken}
 use Rattle.steps.specs.Meets.{Meets, stateOf}
 use Rattle.steps.specs.State.{Result, leaves, withFlag, withPhase, withPointer, withSize}
 use Rattle.steps.specs.Step.{callEvent}
-use Rattle.changes.specs.Change.{applied, changed, entryOf, seenOf, wakesIn}
+use Rattle.changes.specs.Change.{applied, changed, entryOf, seenOf}
 use Rattle.changes.specs.declared.Change.{Change}
 use Rattle.changes.specs.declared.Seen.{Seen}
 use Rattle.changes.proofs.Steps.{Regular, entry-is, gathering-kept}

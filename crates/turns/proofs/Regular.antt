@@ -1,6 +1,6 @@
 -- The changes of the calls of the waitlist keep what a change keeps: no lane is gathered by them, and the woken lane is one of the arrays.
 use Prim.Native.Nat.{ℕ, _+_, _≤_}
-use mathlib.Core.Path.{_≡_, refl, sym, ap, _∙_}
+use mathlib.Core.Path.{_≡_, refl, ap, _∙_}
 use mathlib.Core.Bool.{true, false, not}
 use mathlib.Core.List.{List}
 use lib.Dec.{eqb, ltb}
@@ -14,11 +14,10 @@ use Rattle.line.specs.declared.Phase.{Phase}
 use Rattle.line.specs.declared.Purpose.{Purpose}
 use Rattle.line.specs.Line.{holdsWhole, isGathered, isIdle, mostLanes, mostPointer}
 use Rattle.steps.specs.declared.Answer.{Answer}
-use Rattle.steps.specs.Effects.{purposeOf, reading, writing}
 use Rattle.changes.specs.Change.{refused}
 use Rattle.changes.specs.declared.Seen.{Seen}
 use Rattle.changes.proofs.Steps.{Regular, next-in, reading-apart, regular-by, regular-kept, regular-refused, writing-apart}
-use Rattle.turns.specs.Turns.{freeAt, receiveAt, receivedBy, takeAt, taken, takenBy, takenFrom, wantAt}
+use Rattle.turns.specs.Turns.{freeAt, receiveAt, receivedBy, takeAt, takenBy, takenFrom, wantAt}
 
 -- a lane that is idle, or holds the whole book, is not gathered
 idle-apart : (x : Phase) → isIdle x ≡ true → false ≡ isGathered x

@@ -1,17 +1,14 @@
 -- Each change of a call of the waitlist is the step of document 01.
-use Prim.Native.Nat.{ℕ, _+_, _≤_, _<_}
-use mathlib.Core.Path.{_≡_, refl, sym, _∙_}
-use mathlib.Core.Bool.{Bool, true, false, cond, not, _&&_}
+use Prim.Native.Nat.{ℕ, _+_, _≤_}
+use mathlib.Core.Path.{_≡_, refl, _∙_}
+use mathlib.Core.Bool.{true, cond, not, _&&_}
 use mathlib.Core.List.{List}
 use lib.Dec.{eqb, ltb}
 use lib.ListN.{length, set}
 use lib.Seq.{set-getD}
-use borrow.Author.Tests.{not-false}
 use Rattle.lists.specs.Lists.{all, any}
-use Rattle.lists.proofs.Tests.{clash}
 use Rattle.view.specs.View.{fits}
 use Rattle.view.specs.declared.Place.{Place}
-use Rattle.view.specs.declared.View.{View}
 use Rattle.line.specs.declared.Line.{Line}
 use Rattle.line.specs.declared.Phase.{Phase}
 use Rattle.line.specs.declared.Purpose.{Purpose}
@@ -19,14 +16,12 @@ use Rattle.line.specs.Line.{holdsShared, holdsWhole, isGathered, isIdle, isShar
 use Rattle.line.specs.Sound.{sound}
 use Rattle.waitlist.specs.NextLane.{nextLane}
 use Rattle.event.specs.declared.Event.{Event}
-use Rattle.steps.specs.declared.Answer.{Answer}
 use Rattle.steps.specs.Effects.{purposeOf, reading, receiveStep, takeStep, wantStep, writing}
 use Rattle.steps.specs.Meets.{stateOf}
 use Rattle.steps.specs.State.{Result, State}
 use Rattle.steps.specs.Step.{callEvent, refuse}
 use Rattle.steps.proofs.Chains.{free-chain, receive-chain, take-chain, want-chain}
 use Rattle.changes.specs.Change.{atLane, changed, entryOf, refused, seenOf}
-use Rattle.changes.specs.declared.Change.{Change}
 use Rattle.changes.specs.declared.Seen.{Seen}
 use Rattle.changes.proofs.Steps.{Gives, either, guarded, lane-step, refused-step, unchanged}
 use Rattle.turns.specs.Turns.{freeAt, freed, holdsNow, receiveAt, receivedBy, takeAt, taken, takenBy, takenFrom, waits, wantAt, wanted}

@@ -1,5 +1,4 @@
 -- `decide_at` meets its contract, kind by kind.
-use Rattle.changes.specs.Change.{Within}
 use Rattle.lane_calls.specs.Decided.{bookDecided, decidedAt}
 use Rattle.records.proofs.Regular.{put-storable, write-storable}
 use Rattle.lane_calls.proofs.Others.{no-lane, none-decided, refused-book}
