@@ -34,17 +34,21 @@ module _ (l : Line) (book : List ℕ) (few : l .lanes ≤ mostLanes) (ok : sound
   abbrev pub Decides : Event → ℕ → Type 0
   Decides e i = Gives l (bookDecided e book) (entryOf i) (callEvent (stateOf l book) e) (decided (seenOf l (entryOf i)) i (l .view) (l .flag) book e)
 
+  -- the lane is the one that the event names
+  moved : (e : Event) {j i : ℕ} → Scope.Lane j ≡ Scope.Lane i → Decides e j → Decides e i
+  moved e h d = subst (λ (m : ℕ). Decides e m) (same-lane h) d
+
   pub decided-step : (e : Event) (i : ℕ) → scopeOf e ≡ Scope.Lane i → Decides e i
   unfolding decided decidedAt bookDecided
   decided-step (Event.Open lanes capacity) i h = the-line h
-  decided-step (Event.Want j purpose) i h = subst (λ (m : ℕ). Decides (Event.Want j purpose) m) (same-lane h) (record { is = want-step l book few ok j purpose })
-  decided-step (Event.Receive j) i h = subst (λ (m : ℕ). Decides (Event.Receive j) m) (same-lane h) (record { is = receive-step l book few ok j })
-  decided-step (Event.Take j c) i h = subst (λ (m : ℕ). Decides (Event.Take j c) m) (same-lane h) (record { is = take-step l book few ok j c })
-  decided-step (Event.Write j content) i h = subst (λ (m : ℕ). Decides (Event.Write j content) m) (same-lane h) (record { is = write-step l book few ok j content })
-  decided-step (Event.Read j) i h = subst (λ (m : ℕ). Decides (Event.Read j) m) (same-lane h) (record { is = read-step l book few ok j })
-  decided-step (Event.Put j k content) i h = subst (λ (m : ℕ). Decides (Event.Put j k content) m) (same-lane h) (record { is = put-step l book few ok j content k })
-  decided-step (Event.Look j k) i h = subst (λ (m : ℕ). Decides (Event.Look j k) m) (same-lane h) (record { is = look-step l book few ok j k })
-  decided-step (Event.Free j) i h = subst (λ (m : ℕ). Decides (Event.Free j) m) (same-lane h) (record { is = free-step l book few ok j })
+  decided-step (Event.Want j purpose) i h = moved (Event.Want j purpose) h (record { is = want-step l book few ok j purpose })
+  decided-step (Event.Receive j) i h = moved (Event.Receive j) h (record { is = receive-step l book few ok j })
+  decided-step (Event.Take j c) i h = moved (Event.Take j c) h (record { is = take-step l book few ok j c })
+  decided-step (Event.Write j content) i h = moved (Event.Write j content) h (record { is = write-step l book few ok j content })
+  decided-step (Event.Read j) i h = moved (Event.Read j) h (record { is = read-step l book few ok j })
+  decided-step (Event.Put j k content) i h = moved (Event.Put j k content) h (record { is = put-step l book few ok j content k })
+  decided-step (Event.Look j k) i h = moved (Event.Look j k) h (record { is = look-step l book few ok j k })
+  decided-step (Event.Free j) i h = moved (Event.Free j) h (record { is = free-step l book few ok j })
   decided-step (Event.Enter j c) i h = the-line h
   decided-step (Event.View displacement extent used blocks) i h = the-line h
   decided-step (Event.Seek whence offset) i h = the-line h
