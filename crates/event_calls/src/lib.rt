@@ -28,7 +28,7 @@ fn call_lane(line: Line, book: &mut [u8], lane: u8, event: Event) -> Outcome
     let seen = see(line, lane);
     let view = line.view;
     let flag = line.flag;
-    let change = decide(seen, view, &flag, book, event);
+    let change = decide(seen, lane, view, &flag, book, event);
     apply(line, lane, change)
 }
 

@@ -3,11 +3,12 @@ use Prim.Native.Nat.{ℕ}
 use mathlib.Core.List.{List}
 use Rattle.view.specs.declared.View.{View}
 use Rattle.event.specs.declared.Event.{Event}
-use Rattle.changes.specs.Change.{refused}
+use Rattle.steps.specs.declared.Answer.{Answer}
+use Rattle.changes.specs.Change.{atLane, refused}
 use Rattle.changes.specs.declared.Change.{Change}
 use Rattle.changes.specs.declared.Seen.{Seen}
-use Rattle.turns.specs.Turns.{freeChange, receiveChange, takeChange, wantChange}
-use Rattle.records.specs.Records.{bookAfter, lookChange, putChange, readChange, writeChange}
+use Rattle.turns.specs.Turns.{freeAt, receiveAt, takeAt, wantAt}
+use Rattle.records.specs.Records.{bookAfter, lookAt, putAt, readAt, writeAt}
 use Rattle.lane_calls.specs.declared.Scope.{Scope}
 
 abbrev pub scopeOf : Event → Scope
@@ -25,34 +26,38 @@ scopeOf (Event.View displacement extent used blocks) = Scope.Line
 scopeOf (Event.Seek whence offset) = Scope.Line
 scopeOf Event.Unlisted = Scope.Line
 
--- the change; of a call of another kind nothing is said by this: no law below speaks of it
-unfoldable pub decided : Seen → View → List ℕ → List ℕ → Event → Change
-decided s v flags book (Event.Open lanes capacity) = refused s 2
-decided s v flags book (Event.Want i purpose) = wantChange s flags i purpose
-decided s v flags book (Event.Receive i) = receiveChange s i
-decided s v flags book (Event.Take i c) = takeChange s v flags i c
-decided s v flags book (Event.Write i content) = writeChange s v i
-decided s v flags book (Event.Read i) = readChange s v book i
-decided s v flags book (Event.Put i k content) = putChange s v i k
-decided s v flags book (Event.Look i k) = lookChange s v book i k
-decided s v flags book (Event.Free i) = freeChange s flags i
-decided s v flags book (Event.Enter i c) = refused s 2
-decided s v flags book (Event.View displacement extent used blocks) = refused s 2
-decided s v flags book (Event.Seek whence offset) = refused s 2
-decided s v flags book Event.Unlisted = refused s 2
+-- the change past the tests of the lane; of a call of another kind nothing is said by this: no law below speaks of it
+unfoldable pub decidedAt : Seen → View → List ℕ → List ℕ → Event → Change
+decidedAt s v flags book (Event.Open lanes capacity) = refused s 2
+decidedAt s v flags book (Event.Want i purpose) = wantAt s flags i purpose
+decidedAt s v flags book (Event.Receive i) = receiveAt s
+decidedAt s v flags book (Event.Take i c) = takeAt s v flags i c
+decidedAt s v flags book (Event.Write i content) = writeAt s v
+decidedAt s v flags book (Event.Read i) = readAt s v book
+decidedAt s v flags book (Event.Put i k content) = putAt s v k
+decidedAt s v flags book (Event.Look i k) = lookAt s v book k
+decidedAt s v flags book (Event.Free i) = freeAt s flags i
+decidedAt s v flags book (Event.Enter i c) = refused s 2
+decidedAt s v flags book (Event.View displacement extent used blocks) = refused s 2
+decidedAt s v flags book (Event.Seek whence offset) = refused s 2
+decidedAt s v flags book Event.Unlisted = refused s 2
 
--- the book: a record that 05 or 07 put stands at its position
-unfoldable pub bookDecided : Seen → View → List ℕ → Event → List ℕ
-bookDecided s v book (Event.Open lanes capacity) = book
-bookDecided s v book (Event.Want i purpose) = book
-bookDecided s v book (Event.Receive i) = book
-bookDecided s v book (Event.Take i c) = book
-bookDecided s v book (Event.Write i content) = bookAfter content book (writeChange s v i .answer)
-bookDecided s v book (Event.Read i) = book
-bookDecided s v book (Event.Put i k content) = bookAfter content book (putChange s v i k .answer)
-bookDecided s v book (Event.Look i k) = book
-bookDecided s v book (Event.Free i) = book
-bookDecided s v book (Event.Enter i c) = book
-bookDecided s v book (Event.View displacement extent used blocks) = book
-bookDecided s v book (Event.Seek whence offset) = book
-bookDecided s v book Event.Unlisted = book
+-- the change of a call of lane i: 4 and 8 come first, whatever the kind
+unfoldable pub decided : Seen → ℕ → View → List ℕ → List ℕ → Event → Change
+decided s i v flags book e = atLane s i (decidedAt s v flags book e)
+
+-- the book that an event leaves with this answer: a record that 05 or 07 put stands at its position
+unfoldable pub bookDecided : Event → List ℕ → Answer → List ℕ
+bookDecided (Event.Open lanes capacity) book a = book
+bookDecided (Event.Want i purpose) book a = book
+bookDecided (Event.Receive i) book a = book
+bookDecided (Event.Take i c) book a = book
+bookDecided (Event.Write i content) book a = bookAfter content book a
+bookDecided (Event.Read i) book a = book
+bookDecided (Event.Put i k content) book a = bookAfter content book a
+bookDecided (Event.Look i k) book a = book
+bookDecided (Event.Free i) book a = book
+bookDecided (Event.Enter i c) book a = book
+bookDecided (Event.View displacement extent used blocks) book a = book
+bookDecided (Event.Seek whence offset) book a = book
+bookDecided Event.Unlisted book a = book

@@ -2,7 +2,7 @@
 ghost use mathlib.Core.Path.{_≡_};
 ghost use lib.ListN.{length};
 ghost use Rattle.changes.specs.Change.{Within};
-ghost use Rattle.lane_calls.specs.Decided.{bookDecided, scopeOf, decided};
+ghost use Rattle.lane_calls.specs.Decided.{bookDecided, decided, decidedAt, scopeOf};
 use changes::Change;
 use changes::Seen;
 use changes::refuse;
@@ -36,35 +36,57 @@ pub fn scope_of(event: Event) -> Scope
     }
 }
 
-// What a call of the kinds 02 to 09 changes; a record that is put is stored in the book. No other kind is asked of it, so that its last arm is never reached.
-pub fn decide(seen: Seen, view: View, flags: &[u8], book: &mut [u8], event: Event) -> Change
+// What a call of the kinds 02 to 09 changes past the tests of its lane; a record that is put is stored in the book. No other kind is asked of it, so that its last arm is never reached.
+fn decide_at(seen: Seen, view: View, flags: &[u8], book: &mut [u8], event: Event) -> Change
     requires { ⌜ Within seen view (length (now book)) ⌝ }
-    ensures is { λ r. ⌜ r ≡ decided seen view (now (flags .entry)) (now (book .entry)) event ⌝ }
-    ensures book { λ r. ⌜ now (book .exit) ≡ bookDecided seen view (now (book .entry)) event ⌝ }
+    ensures is { λ r. ⌜ r ≡ decidedAt seen view (now (flags .entry)) (now (book .entry)) event ⌝ }
+    ensures book { λ r. ⌜ now (book .exit) ≡ bookDecided event (now (book .entry)) (r .answer) ⌝ }
 {
     match event {
         Event::Want { lane, purpose } => turns::want(seen, flags, lane, purpose),
-        Event::Receive { lane } => turns::receive(seen, lane),
+        Event::Receive { lane: _ } => turns::receive(seen),
         Event::Take { lane, count } => turns::take(seen, view, flags, lane, count),
-        Event::Write { lane, content } => {
-            let change = records::write(seen, view, lane);
+        Event::Write { lane: _, content } => {
+            let change = records::write(seen, view);
             let answer = change.answer;
             records::store(book, answer, content);
             change
         }
-        Event::Read { lane } => records::read(seen, view, book, lane),
+        Event::Read { lane: _ } => records::read(seen, view, book),
         Event::Put {
-            lane,
+            lane: _,
             place,
             content,
         } => {
-            let change = records::put(seen, view, lane, place);
+            let change = records::put(seen, view, place);
             let answer = change.answer;
             records::store(book, answer, content);
             change
         }
-        Event::Look { lane, place } => records::look(seen, view, book, lane, place),
+        Event::Look { lane: _, place } => records::look(seen, view, book, place),
         Event::Free { lane } => turns::free(seen, flags, lane),
         _ => refuse(seen, 2),
     }
+}
+
+// What a call of this lane changes: 4 before the line is open, and 8 where the line has no such lane, come before what its kind tests.
+pub fn decide(
+    seen: Seen,
+    lane: u8,
+    view: View,
+    flags: &[u8],
+    book: &mut [u8],
+    event: Event,
+) -> Change
+    requires { ⌜ Within seen view (length (now book)) ⌝ }
+    ensures is { λ r. ⌜ r ≡ decided seen lane view (now (flags .entry)) (now (book .entry)) event ⌝ }
+    ensures book { λ r. ⌜ now (book .exit) ≡ bookDecided event (now (book .entry)) (r .answer) ⌝ }
+{
+    if seen.lanes == 0 {
+        return refuse(seen, 4);
+    }
+    if seen.lanes <= lane {
+        return refuse(seen, 8);
+    }
+    decide_at(seen, view, flags, book, event)
 }

@@ -1,10 +1,10 @@
 -- The changes of the calls on records keep what a change keeps, and a record that is put lies within the buffer.
-use Prim.Native.Nat.{ℕ, _+_, _-_, _≤_}
+use Prim.Native.Nat.{ℕ, _+_, _-_}
 use mathlib.Core.Path.{_≡_, refl, ap, _∙_}
 use mathlib.Core.Bool.{Bool, true, false, cond, not}
 use mathlib.Core.List.{List}
 use native.Mathlib.Omega.{arith}
-use lib.Dec.{eqb, leb}
+use lib.Dec.{leb}
 use borrow.Author.Tests.{le-leb, not-false}
 use Rattle.lists.proofs.Tests.{at-test}
 use Rattle.view.specs.View.{fits, place, recordEnd}
@@ -14,18 +14,18 @@ use Rattle.line.specs.declared.Phase.{Phase}
 use Rattle.line.specs.Line.{holdsWhole, isGathered}
 use Rattle.steps.specs.declared.Answer.{Answer}
 use Rattle.steps.proofs.Keeps.{record-ends}
-use Rattle.changes.specs.Change.{Within, atLane, refused}
+use Rattle.changes.specs.Change.{Within, refused}
 use Rattle.changes.specs.declared.Change.{Change}
 use Rattle.changes.specs.declared.Seen.{Seen}
-use Rattle.changes.proofs.Steps.{Regular, reading-apart, regular-kept, regular-lane, regular-refused, writing-apart}
-use Rattle.records.specs.Records.{lookChange, putChange, readAt, readChange, storable, writeAt, writeChange}
+use Rattle.changes.proofs.Steps.{Regular, reading-apart, regular-kept, regular-refused, writing-apart}
+use Rattle.records.specs.Records.{lookAt, putAt, readAt, readBy, storable, writeAt, writtenBy}
 
-module _ (s : Seen) (v : View) (i : ℕ) where
+module _ (s : Seen) (v : View) where
   none : Regular s (refused s 13)
   none = regular-kept s (Answer.Refused 13)
 
   -- ---- 05 and 07
-  write-by : (x : Phase) → x ≡ s .phase → Regular s (writeAt s v x)
+  write-by : (x : Phase) → x ≡ s .phase → Regular s (writtenBy s v x)
   write-by Phase.Idle e = none
   write-by (Phase.Waiting q) e = none
   write-by (Phase.Woken q k) e = none
@@ -34,18 +34,17 @@ module _ (s : Seen) (v : View) (i : ℕ) where
   write-by (Phase.BusyReading left next) e = none
   write-by (Phase.Gathered n) e = none
 
-  pub write-regular : Regular s (writeChange s v i)
-  write-regular = regular-lane s i (write-by (s .phase) refl)
+  pub write-regular : Regular s (writeAt s v)
+  write-regular = write-by (s .phase) refl
 
-  pub put-regular : (k : Place) → Regular s (putChange s v i k)
+  pub put-regular : (k : Place) → Regular s (putAt s v k)
   put-regular k =
-      regular-lane s i
-      (regular-refused s 13 (not (holdsWhole (s .phase)))
-      (λ _. regular-refused s 16 (not (fits v (s .capacity) k 1)) (λ _. record { wakes = refl; gathered = refl })))
+      regular-refused s 13 (not (holdsWhole (s .phase)))
+      (λ _. regular-refused s 16 (not (fits v (s .capacity) k 1)) (λ _. record { wakes = refl; gathered = refl }))
 
   -- ---- 06 and 08
   module _ (book : List ℕ) where
-    read-by : (x : Phase) → x ≡ s .phase → Regular s (readAt s v book x)
+    read-by : (x : Phase) → x ≡ s .phase → Regular s (readBy s v book x)
     read-by Phase.Idle e = none
     read-by (Phase.Waiting q) e = none
     read-by (Phase.Woken q k) e = none
@@ -54,14 +53,14 @@ module _ (s : Seen) (v : View) (i : ℕ) where
     read-by (Phase.BusyReading left next) e = record { wakes = refl; gathered = reading-apart (left - 1) (place (next .0 + 1)) ∙ ap isGathered e }
     read-by (Phase.Gathered n) e = none
 
-    pub read-regular : Regular s (readChange s v book i)
-    read-regular = regular-lane s i (read-by (s .phase) refl)
+    pub read-regular : Regular s (readAt s v book)
+    read-regular = read-by (s .phase) refl
 
-    pub look-regular : (k : Place) → Regular s (lookChange s v book i k)
-    look-regular k = regular-lane s i (regular-refused s 13 (not (holdsWhole (s .phase))) (λ _. record { wakes = refl; gathered = refl }))
+    pub look-regular : (k : Place) → Regular s (lookAt s v book k)
+    look-regular k = regular-refused s 13 (not (holdsWhole (s .phase))) (λ _. record { wakes = refl; gathered = refl })
 
 -- ---- a record that is put lies within the buffer
-module _ (s : Seen) (v : View) (n : ℕ) (W : Within s v n) (i : ℕ) where
+module _ (s : Seen) (v : View) (n : ℕ) (W : Within s v n) where
   abbrev Fits : Change → Type 0
   Fits c = storable (c .answer) n ≡ true
 
@@ -69,13 +68,10 @@ module _ (s : Seen) (v : View) (n : ℕ) (W : Within s v n) (i : ℕ) where
   guard : (k : ℕ) (b : Bool) (c : Change) → (b ≡ false → Fits c) → Fits (cond b (refused s k) c)
   guard k b c f = at-test Fits b (refused s k) c (λ _. refl) f
 
-  at-lane : (c : Change) → Fits c → Fits (atLane s i c)
-  at-lane c f = guard 4 (eqb (s .lanes) 0) (cond (leb (s .lanes) i) (refused s 8) c) (λ _. guard 8 (leb (s .lanes) i) c (λ _. f))
-
   room : (k : Place) → fits v (s .capacity) k 1 ≡ true → leb (recordEnd v k) n ≡ true
   room k f = le-leb (recordEnd v k) n (omega (arith, record-ends v (s .capacity) k f, W .held))
 
-  write-fits : (x : Phase) → x ≡ s .phase → Fits (writeAt s v x)
+  write-fits : (x : Phase) → x ≡ s .phase → Fits (writtenBy s v x)
   write-fits Phase.Idle e = refl
   write-fits (Phase.Waiting q) e = refl
   write-fits (Phase.Woken q k) e = refl
@@ -84,11 +80,10 @@ module _ (s : Seen) (v : View) (n : ℕ) (W : Within s v n) (i : ℕ) where
   write-fits (Phase.BusyReading left next) e = refl
   write-fits (Phase.Gathered m) e = refl
 
-  pub write-storable : storable (writeChange s v i .answer) n ≡ true
-  write-storable = at-lane (writeAt s v (s .phase)) (write-fits (s .phase) refl)
+  pub write-storable : storable (writeAt s v .answer) n ≡ true
+  write-storable = write-fits (s .phase) refl
 
-  pub put-storable : (k : Place) → storable (putChange s v i k .answer) n ≡ true
+  pub put-storable : (k : Place) → storable (putAt s v k .answer) n ≡ true
   put-storable k =
-      at-lane _
-      (guard 13 (not (holdsWhole (s .phase))) _
-      (λ _. guard 16 (not (fits v (s .capacity) k 1)) _ (λ e. room k (not-false _ e))))
+      guard 13 (not (holdsWhole (s .phase))) _
+      (λ _. guard 16 (not (fits v (s .capacity) k 1)) _ (λ e. room k (not-false _ e)))

@@ -19,10 +19,10 @@ use Rattle.steps.specs.Meets.{stateOf}
 use Rattle.steps.specs.State.{Result, State}
 use Rattle.steps.specs.Step.{callEvent, refuse}
 use Rattle.steps.proofs.Chains.{look-chain, put-chain, read-chain, write-chain}
-use Rattle.changes.specs.Change.{changed, entryOf, refused, seenOf}
+use Rattle.changes.specs.Change.{atLane, changed, entryOf, refused, seenOf}
 use Rattle.changes.specs.declared.Seen.{Seen}
 use Rattle.changes.proofs.Steps.{Gives, guarded, lane-step, refused-step, unchanged}
-use Rattle.records.specs.Records.{bookAfter, lookAt, lookChange, putAt, putChange, readAt, readChange, recordFound, recordIn, recordPut, writeAt, writeChange}
+use Rattle.records.specs.Records.{bookAfter, lookAt, putAt, readAt, readBy, recordFound, recordPut, writeAt, writtenBy}
 
 -- the steps past the tests of the lane, by the lane's phase
 abbrev writeRest : State → ℕ → ℕ → Phase → Result
@@ -46,7 +46,7 @@ module _ (l : Line) (book : List ℕ) (few : l .lanes ≤ mostLanes) (ok : sound
     refused-13 : Gives l left i (refuse 13 (stateOf l book)) (refused own 13)
     refused-13 = refused-step l book left (λ k. refl) i 13
 
-    write-by : (x : Phase) → Gives l left i (writeRest (stateOf l book) i content x) (writeAt own (l .view) x)
+    write-by : (x : Phase) → Gives l left i (writeRest (stateOf l book) i content x) (writtenBy own (l .view) x)
     write-by Phase.Idle = refused-13
     write-by (Phase.Waiting q) = refused-13
     write-by (Phase.Woken q v) = refused-13
@@ -55,12 +55,12 @@ module _ (l : Line) (book : List ℕ) (few : l .lanes ≤ mostLanes) (ok : sound
     write-by (Phase.BusyReading n next) = refused-13
     write-by (Phase.Gathered n) = refused-13
 
-    pub write-step : callEvent (stateOf l book) (Event.Write i content) ≡ changed l (entryOf i) (writeChange seen (l .view) i) (left (writeChange seen (l .view) i .answer))
+    pub write-step : callEvent (stateOf l book) (Event.Write i content) ≡ changed l (entryOf i) (atLane seen i (writeAt seen (l .view))) (left (atLane seen i (writeAt seen (l .view)) .answer))
     write-step =
         write-chain nextLane (stateOf l book) i content
-        ∙ lane-step l book left (λ k. refl) few ok i (λ (j : ℕ). writeAt (seenOf l j) (l .view) (phaseAt l j)) _ (λ h. write-by (phaseAt l i)) .is
+        ∙ lane-step l book left (λ k. refl) few ok i (λ (j : ℕ). writeAt (seenOf l j) (l .view)) _ (λ h. write-by (phaseAt l i)) .is
 
-    pub put-step : (k : Place) → callEvent (stateOf l book) (Event.Put i k content) ≡ changed l (entryOf i) (putChange seen (l .view) i k) (left (putChange seen (l .view) i k .answer))
+    pub put-step : (k : Place) → callEvent (stateOf l book) (Event.Put i k content) ≡ changed l (entryOf i) (atLane seen i (putAt seen (l .view) k)) (left (atLane seen i (putAt seen (l .view) k) .answer))
     put-step k =
         put-chain nextLane (stateOf l book) i k content
         ∙ lane-step l book left (λ k. refl) few ok i (λ (j : ℕ). putAt (seenOf l j) (l .view) k) _
@@ -73,7 +73,7 @@ module _ (l : Line) (book : List ℕ) (few : l .lanes ≤ mostLanes) (ok : sound
   none-13 : Gives l (unchanged book) i (refuse 13 (stateOf l book)) (refused own 13)
   none-13 = refused-step l book (unchanged book) (λ k. refl) i 13
 
-  read-by : (x : Phase) → Gives l (unchanged book) i (readRest (stateOf l book) i x) (readAt own (l .view) book x)
+  read-by : (x : Phase) → Gives l (unchanged book) i (readRest (stateOf l book) i x) (readBy own (l .view) book x)
   read-by Phase.Idle = none-13
   read-by (Phase.Waiting q) = none-13
   read-by (Phase.Woken q v) = none-13
@@ -82,12 +82,12 @@ module _ (l : Line) (book : List ℕ) (few : l .lanes ≤ mostLanes) (ok : sound
   read-by (Phase.BusyReading n next) = record { is = rw (set-getD (l .flag) i 0) }
   read-by (Phase.Gathered n) = none-13
 
-  pub read-step : callEvent (stateOf l book) (Event.Read i) ≡ changed l (entryOf i) (readChange seen (l .view) book i) book
+  pub read-step : callEvent (stateOf l book) (Event.Read i) ≡ changed l (entryOf i) (atLane seen i (readAt seen (l .view) book)) book
   read-step =
       read-chain nextLane (stateOf l book) i
-      ∙ lane-step l book (unchanged book) (λ k. refl) few ok i (λ (j : ℕ). readAt (seenOf l j) (l .view) book (phaseAt l j)) _ (λ h. read-by (phaseAt l i)) .is
+      ∙ lane-step l book (unchanged book) (λ k. refl) few ok i (λ (j : ℕ). readAt (seenOf l j) (l .view) book) _ (λ h. read-by (phaseAt l i)) .is
 
-  pub look-step : (k : Place) → callEvent (stateOf l book) (Event.Look i k) ≡ changed l (entryOf i) (lookChange seen (l .view) book i k) book
+  pub look-step : (k : Place) → callEvent (stateOf l book) (Event.Look i k) ≡ changed l (entryOf i) (atLane seen i (lookAt seen (l .view) book k)) book
   look-step k =
       look-chain nextLane (stateOf l book) i k
       ∙ lane-step l book (unchanged book) (λ k. refl) few ok i (λ (j : ℕ). lookAt (seenOf l j) (l .view) book k) _

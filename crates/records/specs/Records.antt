@@ -1,4 +1,4 @@
--- The calls 05, 06, 07 and 08 as changes, by what they see of the line; that each is the step of document 01 is proved in proofs/Steps.
+-- The calls 05, 06, 07 and 08 as changes, past the tests of the lane (4 and 8), by what they see of the line; that each is the step of document 01 is proved in proofs/Steps.
 use Prim.Native.Nat.{ℕ, _+_, max}
 use mathlib.Core.Bool.{Bool, true, cond, not}
 use mathlib.Core.List.{List}
@@ -15,7 +15,7 @@ use Rattle.waitlist.specs.declared.Wakes.{Wakes}
 use Rattle.event.specs.BigEndian.{bigEndian, numberOf}
 use Rattle.steps.specs.declared.Answer.{Answer}
 use Rattle.steps.specs.Effects.{oneLess}
-use Rattle.changes.specs.Change.{atLane, refused}
+use Rattle.changes.specs.Change.{refused}
 use Rattle.changes.specs.declared.Change.{Change}
 use Rattle.changes.specs.declared.Seen.{Seen}
 
@@ -25,18 +25,15 @@ recordPut s v k y =
     record { answer = Answer.Wrote (positionOf v k); phase = y; flag = s .flag; pointer = s .pointer; size = max (s .size) (recordEnd v k); wakes = Wakes.None }
 
 -- 13 to a lane that is no busy writer
-abbrev pub writeAt : Seen → View → Phase → Change
-writeAt s v x =
+abbrev pub writtenBy : Seen → View → Phase → Change
+writtenBy s v x =
     byPhase (refused s 13) (refused s 13) (refused s 13) (refused s 13) (recordPut s v (placeIn x) (oneLess x)) (refused s 13) (refused s 13) x
 
-abbrev pub writeChange : Seen → View → ℕ → Change
-writeChange s v i = atLane s i (writeAt s v (s .phase))
+abbrev pub writeAt : Seen → View → Change
+writeAt s v = writtenBy s v (s .phase)
 
 abbrev pub putAt : Seen → View → Place → Change
 putAt s v k = cond (not (holdsWhole (s .phase))) (refused s 13) (cond (not (fits v (s .capacity) k 1)) (refused s 16) (recordPut s v k (s .phase)))
-
-abbrev pub putChange : Seen → View → ℕ → Place → Change
-putChange s v i k = atLane s i (putAt s v k)
 
 -- the next record of a busy writer fits, as it does on a sound line
 abbrev pub writable : Seen → View → Bool
@@ -84,15 +81,12 @@ recordFound s v book k y =
     record { answer = recordIn v (s .size) book k; phase = y; flag = s .flag; pointer = s .pointer; size = s .size; wakes = Wakes.None }
 
 -- 13 to a lane that is no busy reader
-abbrev pub readAt : Seen → View → List ℕ → Phase → Change
-readAt s v book x =
+abbrev pub readBy : Seen → View → List ℕ → Phase → Change
+readBy s v book x =
     byPhase (refused s 13) (refused s 13) (refused s 13) (refused s 13) (refused s 13) (recordFound s v book (placeIn x) (oneLess x)) (refused s 13) x
 
-abbrev pub readChange : Seen → View → List ℕ → ℕ → Change
-readChange s v book i = atLane s i (readAt s v book (s .phase))
+abbrev pub readAt : Seen → View → List ℕ → Change
+readAt s v book = readBy s v book (s .phase)
 
 abbrev pub lookAt : Seen → View → List ℕ → Place → Change
 lookAt s v book k = cond (not (holdsWhole (s .phase))) (refused s 13) (recordFound s v book k (s .phase))
-
-abbrev pub lookChange : Seen → View → List ℕ → ℕ → Place → Change
-lookChange s v book i k = atLane s i (lookAt s v book k)

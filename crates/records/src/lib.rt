@@ -1,11 +1,11 @@
-// The calls on records as changes: 05 write, 06 read, 07 put and 08 look; and the bytes that a record put changes.
+// The calls on records as changes, by a lane of an open line (`lane_calls` gives 4 and 8): 05 write, 06 read, 07 put and 08 look; and the bytes that a record put changes.
 ghost use Prim.Native.Nat.{_-_, _≤_, max};
 ghost use mathlib.Core.Bool.{true};
 ghost use mathlib.Core.Path.{_≡_};
 ghost use lib.ListN.{length};
 ghost use Rattle.view.specs.View.{recordEnd};
 ghost use Rattle.line.specs.Line.{mostPointer, placeIn};
-ghost use Rattle.records.specs.Records.{bookAfter, lookChange, putChange, readChange, recordFound, recordIn, recordPut, storable, writable, writeChange};
+ghost use Rattle.records.specs.Records.{bookAfter, lookAt, putAt, readAt, recordFound, recordIn, recordPut, storable, writable, writeAt};
 use changes::Change;
 use changes::Seen;
 use changes::phases::to_read;
@@ -89,16 +89,10 @@ fn find_at(seen: Seen, view: View, book: &[u8], place: Place, phase: Phase) -> C
 }
 
 // 05: a busy writer puts its next record; after its last it is idle.
-pub fn write(seen: Seen, view: View, lane: u8) -> Change
+pub fn write(seen: Seen, view: View) -> Change
     requires { ⌜ (placeIn (seen .phase) .0 ≤ mostPointer) × (writable seen view ≡ true) ⌝ }
-    ensures { λ r. ⌜ r ≡ writeChange seen view lane ⌝ }
+    ensures { λ r. ⌜ r ≡ writeAt seen view ⌝ }
 {
-    if seen.lanes == 0 {
-        return refuse(seen, 4);
-    }
-    if seen.lanes <= lane {
-        return refuse(seen, 8);
-    }
     let phase = seen.phase;
     match phase {
         Phase::BusyWriting { left, next } => put_at(
@@ -112,16 +106,10 @@ pub fn write(seen: Seen, view: View, lane: u8) -> Change
 }
 
 // 06: a busy reader gets its next record, or none; either uses one up, and after its last it is idle.
-pub fn read(seen: Seen, view: View, book: &[u8], lane: u8) -> Change
+pub fn read(seen: Seen, view: View, book: &[u8]) -> Change
     requires { ⌜ (placeIn (seen .phase) .0 ≤ mostPointer) × (seen .size ≤ length (now book)) ⌝ }
-    ensures { λ r. ⌜ r ≡ readChange seen view (now (book .entry)) lane ⌝ }
+    ensures { λ r. ⌜ r ≡ readAt seen view (now (book .entry)) ⌝ }
 {
-    if seen.lanes == 0 {
-        return refuse(seen, 4);
-    }
-    if seen.lanes <= lane {
-        return refuse(seen, 8);
-    }
     let phase = seen.phase;
     match phase {
         Phase::BusyReading { left, next } => find_at(
@@ -136,15 +124,9 @@ pub fn read(seen: Seen, view: View, book: &[u8], lane: u8) -> Change
 }
 
 // 07: the holder of the whole book puts a record at any place.
-pub fn put(seen: Seen, view: View, lane: u8, place: Place) -> Change
-    ensures { λ r. ⌜ r ≡ putChange seen view lane place ⌝ }
+pub fn put(seen: Seen, view: View, place: Place) -> Change
+    ensures { λ r. ⌜ r ≡ putAt seen view place ⌝ }
 {
-    if seen.lanes == 0 {
-        return refuse(seen, 4);
-    }
-    if seen.lanes <= lane {
-        return refuse(seen, 8);
-    }
     let phase = seen.phase;
     if !lane_phases::holds_whole(phase) {
         return refuse(seen, 13);
@@ -156,16 +138,10 @@ pub fn put(seen: Seen, view: View, lane: u8, place: Place) -> Change
 }
 
 // 08: the holder of the whole book looks at any place.
-pub fn look(seen: Seen, view: View, book: &[u8], lane: u8, place: Place) -> Change
+pub fn look(seen: Seen, view: View, book: &[u8], place: Place) -> Change
     requires { ⌜ seen .size ≤ length (now book) ⌝ }
-    ensures { λ r. ⌜ r ≡ lookChange seen view (now (book .entry)) lane place ⌝ }
+    ensures { λ r. ⌜ r ≡ lookAt seen view (now (book .entry)) place ⌝ }
 {
-    if seen.lanes == 0 {
-        return refuse(seen, 4);
-    }
-    if seen.lanes <= lane {
-        return refuse(seen, 8);
-    }
     let phase = seen.phase;
     if !lane_phases::holds_whole(phase) {
         return refuse(seen, 13);

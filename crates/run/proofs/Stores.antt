@@ -1,6 +1,6 @@
 -- The stores of a lane's change in the line that a run keeps: they leave the line that the step leaves.
 use Prim.Native.Nat.{ℕ, _≤_, _<_}
-use mathlib.Core.Path.{_≡_, refl, sym, ap, _∙_}
+use mathlib.Core.Path.{_≡_, sym, ap, _∙_}
 use mathlib.Core.Bool.{Bool, true}
 use mathlib.Core.List.{List}
 use lib.ListN.{getD, length}
@@ -18,12 +18,12 @@ use Rattle.steps.specs.Effects.{woken}
 use Rattle.steps.specs.Meets.{Meets, stateOf}
 use Rattle.steps.specs.State.{Result, leaves, withFlag, withPhase, withPointer, withSize}
 use Rattle.steps.specs.Step.{callEvent}
-use Rattle.changes.specs.Change.{applied, changed, entryOf, seenOf, wakesIn}
+use Rattle.changes.specs.Change.{applied, changed, entryOf, seenOf}
 use Rattle.changes.specs.declared.Change.{Change}
 use Rattle.changes.specs.declared.Seen.{Seen}
 use Rattle.changes.proofs.Steps.{Regular, entry-is, gathering-kept}
 use Rattle.lane_calls.specs.declared.Scope.{Scope}
-use Rattle.lane_calls.specs.Decided.{bookDecided, scopeOf, decided}
+use Rattle.lane_calls.specs.Decided.{bookDecided, decided, scopeOf}
 use Rattle.lane_calls.proofs.Steps.{decided-regular, decided-step}
 
 -- an outcome that meets a step has all of it
@@ -48,21 +48,18 @@ pub record Called (l : Line) (book : List ℕ) (e : Event) (a : Answer) (line′
   pub gathered : any (on isGathered) (line′ .lane) ≡ any (on isGathered) (l .lane)
 
 module _ (l : Line) (book : List ℕ) (few : l .lanes ≤ mostLanes) (ok : sound l (length book) ≡ true) (e : Event) (lane : ℕ) (by : scopeOf e ≡ Scope.Lane lane)
-    (c : Change) (book′ : List ℕ) (seen : Seen) (sees : seen ≡ seenOf l (entryOf lane)) (is : c ≡ decided seen (l .view) (l .flag) book e) (puts : book′ ≡ bookDecided seen (l .view) book e) where
+    (c : Change) (book′ : List ℕ) (seen : Seen) (sees : seen ≡ seenOf l (entryOf lane)) (is : c ≡ decided seen lane (l .view) (l .flag) book e) (puts : book′ ≡ bookDecided e book (c .answer)) where
   abbrev j : ℕ
   j = entryOf lane
 
-  change-is : c ≡ decided (seenOf l j) (l .view) (l .flag) book e
-  change-is = is ∙ ap (λ (s : Seen). decided s (l .view) (l .flag) book e) sees
-
-  book-is : book′ ≡ bookDecided (seenOf l j) (l .view) book e
-  book-is = puts ∙ ap (λ (s : Seen). bookDecided s (l .view) book e) sees
+  change-is : c ≡ decided (seenOf l j) lane (l .view) (l .flag) book e
+  change-is = is ∙ ap (λ (s : Seen). decided s lane (l .view) (l .flag) book e) sees
 
   regular : Regular (seenOf l j) c
-  regular = rw change-is (decided-regular (seenOf l j) few (l .view) (l .flag) book e)
+  regular = rw change-is (decided-regular (seenOf l j) few lane (l .view) (l .flag) book e)
 
   applies : callEvent (stateOf l book) e ≡ changed l j c book′
-  applies = rw (change-is, book-is) (decided-step l book few ok e lane by .is)
+  applies = rw (puts, change-is) (decided-step l book few ok e lane by .is)
 
   -- where the stores leave what the change leaves
   stores : (line′ : Line) → applied l j c ≡ line′ → Called l book e (c .answer) line′ book′

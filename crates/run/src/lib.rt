@@ -80,7 +80,7 @@ fn run_sound(line: Line, book: &mut [u8], sheet: &[u8], out: &mut [u8]) -> RunOu
                     phase,
                     flag: next.flag[i],
                 };
-                let change = decide(seen, next.view, &next.flag, book, event);
+                let change = decide(seen, lane, next.view, &next.flag, book, event);
                 let answer = change.answer;
                 length = put_answer(out, length, number, answer);
                 number += 1;

@@ -1,6 +1,6 @@
 -- The changes of the calls of the waitlist keep what a change keeps: no lane is gathered by them, and the woken lane is one of the arrays.
 use Prim.Native.Nat.{ℕ, _+_, _≤_}
-use mathlib.Core.Path.{_≡_, refl, sym, ap, _∙_}
+use mathlib.Core.Path.{_≡_, refl, ap, _∙_}
 use mathlib.Core.Bool.{true, false, not}
 use mathlib.Core.List.{List}
 use lib.Dec.{eqb, ltb}
@@ -14,11 +14,10 @@ use Rattle.line.specs.declared.Phase.{Phase}
 use Rattle.line.specs.declared.Purpose.{Purpose}
 use Rattle.line.specs.Line.{holdsWhole, isGathered, isIdle, mostLanes, mostPointer}
 use Rattle.steps.specs.declared.Answer.{Answer}
-use Rattle.steps.specs.Effects.{purposeOf, reading, writing}
 use Rattle.changes.specs.Change.{refused}
 use Rattle.changes.specs.declared.Seen.{Seen}
-use Rattle.changes.proofs.Steps.{Regular, next-in, reading-apart, regular-by, regular-kept, regular-lane, regular-refused, writing-apart}
-use Rattle.turns.specs.Turns.{freeChange, receiveChange, receivedBy, takeChange, taken, takenBy, takenFrom, wantChange}
+use Rattle.changes.proofs.Steps.{Regular, next-in, reading-apart, regular-by, regular-kept, regular-refused, writing-apart}
+use Rattle.turns.specs.Turns.{freeAt, receiveAt, receivedBy, takeAt, takenBy, takenFrom, wantAt}
 
 -- a lane that is idle, or holds the whole book, is not gathered
 idle-apart : (x : Phase) → isIdle x ≡ true → false ≡ isGathered x
@@ -43,14 +42,13 @@ module _ (s : Seen) (few : s .lanes ≤ mostLanes) (i : ℕ) where
   refused-13 : Regular s (refused s 13)
   refused-13 = regular-kept s (Answer.Refused 13)
 
-  pub want-regular : (flags : List ℕ) (purpose : ℕ) → Regular s (wantChange s flags i purpose)
+  pub want-regular : (flags : List ℕ) (purpose : ℕ) → Regular s (wantAt s flags i purpose)
   want-regular flags purpose =
-      regular-lane s i
-      (regular-refused s 9 (ltb 2 purpose)
+      regular-refused s 9 (ltb 2 purpose)
       (λ _. regular-refused s 12 (s .gathering)
       (λ _. regular-refused s 13 (not (isIdle (s .phase)))
       (λ e. let apart = idle-apart (s .phase) (not-false _ e) in
-      regular-by s (all (eqb 0) (set flags i 0)) (λ _. record { wakes = refl; gathered = apart }) (λ _. record { wakes = refl; gathered = apart })))))
+      regular-by s (all (eqb 0) (set flags i 0)) (λ _. record { wakes = refl; gathered = apart }) (λ _. record { wakes = refl; gathered = apart }))))
 
   receive-by : (x : Phase) → x ≡ s .phase → Regular s (receivedBy s x)
   receive-by Phase.Idle e = refused-13
@@ -61,8 +59,8 @@ module _ (s : Seen) (few : s .lanes ≤ mostLanes) (i : ℕ) where
   receive-by (Phase.BusyReading left next) e = refused-13
   receive-by (Phase.Gathered n) e = refused-13
 
-  pub receive-regular : Regular s (receiveChange s i)
-  receive-regular = regular-lane s i (receive-by (s .phase) refl)
+  pub receive-regular : Regular s (receiveAt s)
+  receive-regular = receive-by (s .phase) refl
 
   module _ (view : View) (flags : List ℕ) (c : ℕ) where
     take-held : (q : Purpose) (v : Place) → false ≡ isGathered (s .phase) → Regular s (takenBy s view flags i q v c)
@@ -83,11 +81,10 @@ module _ (s : Seen) (few : s .lanes ≤ mostLanes) (i : ℕ) where
     take-by (Phase.BusyReading left next) e = refused-13
     take-by (Phase.Gathered n) e = refused-13
 
-    pub take-regular : Regular s (takeChange s view flags i c)
-    take-regular = regular-lane s i (take-by (s .phase) refl)
+    pub take-regular : Regular s (takeAt s view flags i c)
+    take-regular = take-by (s .phase) refl
 
-  pub free-regular : (flags : List ℕ) → Regular s (freeChange s flags i)
+  pub free-regular : (flags : List ℕ) → Regular s (freeAt s flags i)
   free-regular flags =
-      regular-lane s i
-      (regular-refused s 13 (not (holdsWhole (s .phase)))
-      (λ e. record { wakes = next-in (s .lanes) (set flags i 0) i few; gathered = whole-apart (s .phase) (not-false _ e) }))
+      regular-refused s 13 (not (holdsWhole (s .phase)))
+      (λ e. record { wakes = next-in (s .lanes) (set flags i 0) i few; gathered = whole-apart (s .phase) (not-false _ e) })

@@ -1,4 +1,4 @@
--- The calls 02, 03, 04 and 09 as changes, by what they see of the line; that each is the step of document 01 is proved in proofs/Steps.
+-- The calls 02, 03, 04 and 09 as changes, past the tests of the lane (4 and 8), by what they see of the line; that each is the step of document 01 is proved in proofs/Steps.
 use Prim.Native.Nat.{ℕ, _+_}
 use mathlib.Core.Bool.{Bool, cond, not}
 use mathlib.Core.List.{List}
@@ -15,7 +15,7 @@ use Rattle.waitlist.specs.NextLane.{nextLane}
 use Rattle.waitlist.specs.declared.Wakes.{Wakes}
 use Rattle.steps.specs.declared.Answer.{Answer}
 use Rattle.steps.specs.Effects.{purposeOf, reading, writing}
-use Rattle.changes.specs.Change.{atLane, refused}
+use Rattle.changes.specs.Change.{refused}
 use Rattle.changes.specs.declared.Change.{Change}
 use Rattle.changes.specs.declared.Seen.{Seen}
 
@@ -34,23 +34,19 @@ waits s p = movedTo s Answer.Waits (Phase.Waiting p) 1
 abbrev pub wanted : Seen → Bool → Purpose → Change
 wanted s alone p = cond alone (holdsNow s p) (waits s p)
 
--- past the tests of the lane
 abbrev pub wantAt : Seen → List ℕ → ℕ → ℕ → Change
 wantAt s flags i purpose =
     cond (ltb 2 purpose) (refused s 9)
     (cond (s .gathering) (refused s 12)
     (cond (not (isIdle (s .phase))) (refused s 13) (wanted s (all (eqb 0) (set flags i 0)) (purposeOf purpose))))
 
-abbrev pub wantChange : Seen → List ℕ → ℕ → ℕ → Change
-wantChange s flags i purpose = atLane s i (wantAt s flags i purpose)
-
 -- ---- 03: 14 to a waiting lane, 13 to any but a woken one
 abbrev pub receivedBy : Seen → Phase → Change
 receivedBy s x =
     byPhase (refused s 13) (refused s 14) (movedTo s (Answer.Holds (placeIn x)) (Phase.Holding (purposeIn x) (placeIn x)) (s .flag)) (refused s 13) (refused s 13) (refused s 13) (refused s 13) x
 
-abbrev pub receiveChange : Seen → ℕ → Change
-receiveChange s i = atLane s i (receivedBy s (s .phase))
+abbrev pub receiveAt : Seen → Change
+receiveAt s = receivedBy s (s .phase)
 
 -- ---- a release, of 04 and 09: the flag drops, and the next lane is woken
 abbrev pub nextFor : Seen → List ℕ → ℕ → Wakes
@@ -81,8 +77,8 @@ abbrev pub takenFrom : Seen → View → List ℕ → ℕ → ℕ → Phase → 
 takenFrom s view flags i c x =
     byPhase (refused s 13) (refused s 13) (refused s 13) (takenBy s view flags i (purposeIn x) (placeIn x) c) (refused s 13) (refused s 13) (refused s 13) x
 
-abbrev pub takeChange : Seen → View → List ℕ → ℕ → ℕ → Change
-takeChange s view flags i c = atLane s i (takenFrom s view flags i c (s .phase))
+abbrev pub takeAt : Seen → View → List ℕ → ℕ → ℕ → Change
+takeAt s view flags i c = takenFrom s view flags i c (s .phase)
 
 -- ---- 09
 abbrev pub freed : Seen → List ℕ → ℕ → Change
@@ -90,6 +86,3 @@ freed s flags i = releasedTo s (Answer.Freed (nextFor s flags i)) Phase.Idle (s 
 
 abbrev pub freeAt : Seen → List ℕ → ℕ → Change
 freeAt s flags i = cond (not (holdsWhole (s .phase))) (refused s 13) (freed s flags i)
-
-abbrev pub freeChange : Seen → List ℕ → ℕ → Change
-freeChange s flags i = atLane s i (freeAt s flags i)

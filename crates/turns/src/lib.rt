@@ -1,8 +1,8 @@
-// The calls 02 want, 03 receive, 04 take and 09 free as changes: the tests in the order of the refusals, then what the call does.
-ghost use Prim.Native.Nat.{_≤_, _<_};
+// The calls 02 want, 03 receive, 04 take and 09 free as changes, by a lane of an open line (`lane_calls` gives 4 and 8): the tests in the order of the refusals, then what the call does.
+ghost use Prim.Native.Nat.{_≤_};
 ghost use mathlib.Core.Path.{_≡_};
 ghost use Rattle.line.specs.Line.{mostPointer, placeIn};
-ghost use Rattle.turns.specs.Turns.{freeChange, movedTo, receiveChange, releasedTo, takeChange, taken, takenBy, takenToRead, takenToWrite, wantChange, wanted};
+ghost use Rattle.turns.specs.Turns.{freeAt, movedTo, receiveAt, releasedTo, takeAt, taken, takenBy, takenToRead, takenToWrite, wantAt, wanted};
 use changes::Change;
 use changes::Seen;
 use changes::phases::purpose_of;
@@ -46,14 +46,8 @@ fn raise(seen: Seen, alone: bool, purpose: Purpose) -> Change
 
 // 02: an idle lane asks for the book.
 pub fn want(seen: Seen, flags: &[u8], lane: u8, purpose: u8) -> Change
-    ensures { λ r. ⌜ r ≡ wantChange seen (now (flags .entry)) lane purpose ⌝ }
+    ensures { λ r. ⌜ r ≡ wantAt seen (now (flags .entry)) lane purpose ⌝ }
 {
-    if seen.lanes == 0 {
-        return refuse(seen, 4);
-    }
-    if seen.lanes <= lane {
-        return refuse(seen, 8);
-    }
     if 2 < purpose {
         return refuse(seen, 9);
     }
@@ -87,15 +81,9 @@ fn hold(seen: Seen, purpose: Purpose, value: Place) -> Change
 }
 
 // 03: a woken lane becomes holding; to a waiting one no wake has come yet.
-pub fn receive(seen: Seen, lane: u8) -> Change
-    ensures { λ r. ⌜ r ≡ receiveChange seen lane ⌝ }
+pub fn receive(seen: Seen) -> Change
+    ensures { λ r. ⌜ r ≡ receiveAt seen ⌝ }
 {
-    if seen.lanes == 0 {
-        return refuse(seen, 4);
-    }
-    if seen.lanes <= lane {
-        return refuse(seen, 8);
-    }
     let phase = seen.phase;
     match phase {
         Phase::Woken(purpose, value) => hold(seen, purpose, value),
@@ -120,7 +108,7 @@ fn release(seen: Seen, answer: Answer, phase: Phase, pointer: Place, wakes: Wake
 
 // A region of `count` records from a place: the pointer moves past it, and the lane releases.
 fn take_region(seen: Seen, flags: &[u8], lane: u8, start: Place, count: u16, phase: Phase) -> Change
-    requires { ⌜ (lane < seen .lanes) × (start .0 ≤ mostPointer) ⌝ }
+    requires { ⌜ start .0 ≤ mostPointer ⌝ }
     ensures { λ r. ⌜ r ≡ taken seen (now (flags .entry)) lane start count phase ⌝ }
 {
     let pointer = Place(start.0 + count as u32);
@@ -135,7 +123,7 @@ fn take_region(seen: Seen, flags: &[u8], lane: u8, start: Place, count: u16, pha
 
 // The take of a shared write, whose records must fit.
 fn take_to_write(seen: Seen, view: View, flags: &[u8], lane: u8, start: Place, count: u16) -> Change
-    requires { ⌜ (lane < seen .lanes) × (start .0 ≤ mostPointer) ⌝ }
+    requires { ⌜ start .0 ≤ mostPointer ⌝ }
     ensures { λ r. ⌜ r ≡ takenToWrite seen view (now (flags .entry)) lane start count ⌝ }
 {
     if !view.fits(seen.capacity, start, count as u32) {
@@ -146,7 +134,7 @@ fn take_to_write(seen: Seen, view: View, flags: &[u8], lane: u8, start: Place, c
 
 // The take of a shared read, which may run past the capacity; the pointer must stay in its range.
 fn take_to_read(seen: Seen, flags: &[u8], lane: u8, start: Place, count: u16) -> Change
-    requires { ⌜ (lane < seen .lanes) × (start .0 ≤ mostPointer) ⌝ }
+    requires { ⌜ start .0 ≤ mostPointer ⌝ }
     ensures { λ r. ⌜ r ≡ takenToRead seen (now (flags .entry)) lane start count ⌝ }
 {
     if MOST_POINTER < start.0 as u64 + count as u64 {
@@ -165,7 +153,7 @@ fn take_by(
     start: Place,
     count: u16,
 ) -> Change
-    requires { ⌜ (lane < seen .lanes) × (start .0 ≤ mostPointer) ⌝ }
+    requires { ⌜ start .0 ≤ mostPointer ⌝ }
     ensures { λ r. ⌜ r ≡ takenBy seen view (now (flags .entry)) lane purpose start count ⌝ }
 {
     match purpose {
@@ -178,14 +166,8 @@ fn take_by(
 // 04: a holder for a shared purpose takes a region and releases.
 pub fn take(seen: Seen, view: View, flags: &[u8], lane: u8, count: u16) -> Change
     requires { ⌜ placeIn (seen .phase) .0 ≤ mostPointer ⌝ }
-    ensures { λ r. ⌜ r ≡ takeChange seen view (now (flags .entry)) lane count ⌝ }
+    ensures { λ r. ⌜ r ≡ takeAt seen view (now (flags .entry)) lane count ⌝ }
 {
-    if seen.lanes == 0 {
-        return refuse(seen, 4);
-    }
-    if seen.lanes <= lane {
-        return refuse(seen, 8);
-    }
     let phase = seen.phase;
     match phase {
         Phase::Holding(purpose, value) => take_by(seen, view, flags, lane, purpose, value, count),
@@ -195,14 +177,8 @@ pub fn take(seen: Seen, view: View, flags: &[u8], lane: u8, count: u16) -> Chang
 
 // 09: a holder of the whole book releases; the pointer is unchanged and carried by the wake.
 pub fn free(seen: Seen, flags: &[u8], lane: u8) -> Change
-    ensures { λ r. ⌜ r ≡ freeChange seen (now (flags .entry)) lane ⌝ }
+    ensures { λ r. ⌜ r ≡ freeAt seen (now (flags .entry)) lane ⌝ }
 {
-    if seen.lanes == 0 {
-        return refuse(seen, 4);
-    }
-    if seen.lanes <= lane {
-        return refuse(seen, 8);
-    }
     let phase = seen.phase;
     if !lane_phases::holds_whole(phase) {
         return refuse(seen, 13);

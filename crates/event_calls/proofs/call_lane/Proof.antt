@@ -28,15 +28,15 @@ look s = seenOf (s .args .line) (entryOf (s .args .lane))
 within : (s : tie.Start) → Within (look s) (s .args .line .view) (length (s .args .book .now))
 within s = within-of (s .args .line) (length (s .args .book .now)) (shape-of (s .args .line) (s .good .0)) (s .pre .0) (entryOf (s .args .lane))
 
--- the change and the book, by what the call sees of the line
+-- the change, by what the call sees of the line, and the book after it
 abbrev change-of : Seen → tie.Start → Change
-change-of seen s = decided seen (s .args .line .view) (s .args .line .flag) (s .args .book .now) (s .args .event)
+change-of seen s = decided seen (s .args .lane) (s .args .line .view) (s .args .line .flag) (s .args .book .now) (s .args .event)
 
 change-is : (c : tie.After-decide) → c .decide .result ≡ change-of (look (start (see-of c))) (start (see-of c))
 change-is c = c .decide .ensures .0 ∙ ap (λ (seen : Seen). change-of seen (start (see-of c))) (see-of c .see .ensures)
 
-abbrev book-of : Seen → tie.Start → List ℕ
-book-of seen s = bookDecided seen (s .args .line .view) (s .args .book .now) (s .args .event)
+abbrev book-of : tie.Start → Change → List ℕ
+book-of s change = bookDecided (s .args .event) (s .args .book .now) (change .answer)
 
 see-requires : tie.Need-see-requires
 see-requires c κs = search needs
@@ -50,7 +50,7 @@ decide-requires c κs =
     rw (seen .see .ensures) (within (start seen))
 
 apply-requires : tie.Need-apply-requires
-apply-requires c κs = rw (change-is (c .before .before)) (decided-regular (look (start (see-of (c .before .before)))) (within (start (see-of (c .before .before))) .few) _ _ _ _ .wakes)
+apply-requires c κs = rw (change-is (c .before .before)) (decided-regular (look (start (see-of (c .before .before)))) (within (start (see-of (c .before .before))) .few) _ _ _ _ _ .wakes)
 
 same-length : tie.Need-same-length
 same-length c = search needs
@@ -60,7 +60,7 @@ returns c =
     let d = c .before .before .before in
     let s = start (see-of d) in
     meets-changed (s .args .line) (entryOf (s .args .lane)) (change-of (look s) s) (decided-step (s .args .line) (s .args .book .now) (within s .few) (s .pre .0) (s .args .event) (s .args .lane) (s .pre .1) .is)
-    (c .apply .ensures ∙ ap (outcomeOf (s .args .line) (entryOf (s .args .lane))) (change-is d)) (d .decide .ensures .1 ∙ ap (λ (seen : Seen). book-of seen s) (see-of d .see .ensures))
+    (c .apply .ensures ∙ ap (outcomeOf (s .args .line) (entryOf (s .args .lane))) (change-is d)) (d .decide .ensures .1 ∙ ap (book-of s) (change-is d))
 
 pub call-lane-spec : {M : Type 1} → statement M
 call-lane-spec =

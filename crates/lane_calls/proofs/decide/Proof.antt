@@ -1,168 +1,54 @@
--- `decide` meets its contract, kind by kind.
-use Rattle.changes.specs.Change.{Within}
-use Rattle.lane_calls.specs.Decided.{bookDecided, decided}
-use Rattle.records.proofs.Regular.{put-storable, write-storable}
-use Rattle.lane_calls.proofs.Others.{no-lane, none-decided}
-use mathlib.Core.Path.{refl, _∙_}
+-- `decide` meets its contract: the tests of the lane, and past them what `decide_at` gives.
+use borrow.Author.Tests.{eq-eqb, le-leb, lt-leb, ne-eqb}
+use Rattle.lane_calls.specs.Decided.{decided}
+use Rattle.lane_calls.proofs.Others.{refused-book}
 use borrow.Author.Needs.{needs}
 use Rattle.lane_calls.proofs.decide.Statement.{statement}
 use Rattle.lane_calls.proofs.decide.Tie as tie
 
-enum-known-event : tie.Need-enum-known-event
-enum-known-event c = search needs
-
-want-requires : tie.Need-want-requires
-want-requires c κs = search needs
-
-enum-known-event-2 : tie.Need-enum-known-event-2
-enum-known-event-2 c = search needs
-
-receive-requires : tie.Need-receive-requires
-receive-requires c κs = search needs
-
-enum-known-event-3 : tie.Need-enum-known-event-3
-enum-known-event-3 c = search needs
-
-take-requires : tie.Need-take-requires
-take-requires c κs = search needs
-
-enum-known-event-4 : tie.Need-enum-known-event-4
-enum-known-event-4 c = search needs
-
-write-requires : tie.Need-write-requires
-write-requires c κs = search needs
-
-store-requires : tie.Need-store-requires
-store-requires c κs =
-    let w = c .before in
-    let told = w .before .before in
-    let s = told .before .before .before .before in
-    rw (w .write .ensures) (write-storable (s .args .seen) (s .args .view) _ (s .pre) (told .event4 .given .0 .0))
-
-enum-known-event-5 : tie.Need-enum-known-event-5
-enum-known-event-5 c = search needs
-
-read-requires : tie.Need-read-requires
-read-requires c κs = search needs
-
-enum-known-event-6 : tie.Need-enum-known-event-6
-enum-known-event-6 c = search needs
-
-put-requires : tie.Need-put-requires
-put-requires c κs = search needs
-
-store-requires-2 : tie.Need-store-requires-2
-store-requires-2 c κs =
-    let w = c .before in
-    let told = w .before .before in
-    let s = told .before .before .before .before in
-    rw (w .put .ensures) (put-storable (s .args .seen) (s .args .view) _ (s .pre) (told .event6 .given .0 .0) (told .event6 .given .0 .1 .0))
-
-enum-known-event-7 : tie.Need-enum-known-event-7
-enum-known-event-7 c = search needs
-
-look-requires : tie.Need-look-requires
-look-requires c κs = search needs
-
-enum-known-event-8 : tie.Need-enum-known-event-8
-enum-known-event-8 c = search needs
-
-free-requires : tie.Need-free-requires
-free-requires c κs = search needs
+abbrev start : tie.After-struct-known → tie.Start
+start c = c .before .before .before
 
 refuse-requires : tie.Need-refuse-requires
 refuse-requires c κs = search needs
 
 returns : tie.Need-returns
-unfolding decided bookDecided
-returns c = rw (c .before .before .event .given .1) (c .want .ensures, refl)
+unfolding decided
+returns c =
+    let a = start (c .before .before) .args in
+    (rw (eq-eqb _ _ (c .before .if1 .taken)) (c .refuse .ensures), rw (c .refuse .ensures) (refused-book (a .event) (a .book .now) 4))
+
+refuse-requires-2 : tie.Need-refuse-requires-2
+refuse-requires-2 c κs = search needs
 
 returns-2 : tie.Need-returns-2
-unfolding decided bookDecided
-returns-2 c = rw (c .before .before .event2 .given .1) (c .receive .ensures, refl)
+unfolding decided
+returns-2 c =
+    let e = c .before .before .before in
+    let a = start (e .before) .args in
+    (rw (ne-eqb _ _ (e .if1 .left), le-leb _ _ (c .before .if2 .taken)) (c .refuse2 .ensures), rw (c .refuse2 .ensures) (refused-book (a .event) (a .book .now) 8))
 
-returns-3 : tie.Need-returns-3
-unfolding decided bookDecided
-returns-3 c = rw (c .before .before .event3 .given .1) (c .take .ensures, refl)
+decide-at-requires : tie.Need-decide-at-requires
+decide-at-requires c κs = search needs
 
 same-length : tie.Need-same-length
 same-length c = search needs
 
-returns-4 : tie.Need-returns-4
-unfolding decided bookDecided
-returns-4 c =
-    let stored = c .before .before in
-    let w = stored .before .before in
-    rw (w .before .before .event4 .given .1) (w .write .ensures, rw (w .write .ensures) at (stored .store .ensures))
-
-same-length-2 : tie.Need-same-length-2
-same-length-2 c = search needs
-
-returns-5 : tie.Need-returns-5
-unfolding decided bookDecided
-returns-5 c = rw (c .before .before .before .event5 .given .1) (c .read .ensures, refl)
-
-same-length-3 : tie.Need-same-length-3
-same-length-3 c = search needs
-
-returns-6 : tie.Need-returns-6
-unfolding decided bookDecided
-returns-6 c =
-    let stored = c .before .before in
-    let w = stored .before .before in
-    rw (w .before .before .event6 .given .1) (w .put .ensures, rw (w .put .ensures) at (stored .store2 .ensures))
-
-same-length-4 : tie.Need-same-length-4
-same-length-4 c = search needs
-
-returns-7 : tie.Need-returns-7
-unfolding decided bookDecided
-returns-7 c = rw (c .before .before .before .event7 .given .1) (c .look .ensures, refl)
-
-returns-8 : tie.Need-returns-8
-unfolding decided bookDecided
-returns-8 c = rw (c .before .before .event8 .given .1) (c .free .ensures, refl)
-
-returns-9 : tie.Need-returns-9
-unfolding decided bookDecided
-returns-9 c =
-    let a = c .before .before .before .before .args in
-    let none = none-decided (a .seen) (a .view) (a .flags .now) (a .book .now) (a .event) (no-lane (a .event) (c .before .match .keys9)) in
-    (c .refuse .ensures ∙ none .0, none .1)
+returns-3 : tie.Need-returns-3
+unfolding decided
+returns-3 c =
+    let d = c .before .before in
+    let f = d .before .before in
+    (rw (ne-eqb _ _ (f .before .before .if1 .left), lt-leb _ _ (f .if2 .left)) (d .decide-at .ensures .0), d .decide-at .ensures .1)
 
 pub decide-spec : {M : Type 1} → statement M
 decide-spec =
     tie.close
     (tie.spec
-    enum-known-event
-    want-requires
-    enum-known-event-2
-    receive-requires
-    enum-known-event-3
-    take-requires
-    enum-known-event-4
-    write-requires
-    store-requires
-    enum-known-event-5
-    read-requires
-    enum-known-event-6
-    put-requires
-    store-requires-2
-    enum-known-event-7
-    look-requires
-    enum-known-event-8
-    free-requires
     refuse-requires
     returns
+    refuse-requires-2
     returns-2
-    returns-3
+    decide-at-requires
     same-length
-    returns-4
-    same-length-2
-    returns-5
-    same-length-3
-    returns-6
-    same-length-4
-    returns-7
-    returns-8
-    returns-9)
+    returns-3)

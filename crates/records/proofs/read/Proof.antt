@@ -1,30 +1,15 @@
 -- `read` meets its contract.
-use Prim.Native.Nat.{ℕ, _+_, _≤_}
-use mathlib.Core.Path.{_≡_, ap, sym, _∙_}
+use Prim.Native.Nat.{ℕ, _+_}
+use mathlib.Core.Path.{ap, sym, _∙_}
 use native.Mathlib.Omega.{arith}
-use borrow.Author.Tests.{eq-eqb, le-leb, lt-leb, ne-eqb}
 use Rattle.view.specs.View.{place}
-use Rattle.line.specs.Line.{mostPointer, placeIn}
-use Rattle.line.specs.declared.Phase.{Phase}
 use Rattle.steps.specs.Effects.{reading}
 use Rattle.changes.specs.Change.{refused}
 use Rattle.changes.proofs.Arms.{not-reading}
-use Rattle.records.specs.Records.{recordFound, readAt}
+use Rattle.records.specs.Records.{readBy, recordFound}
 use borrow.Author.Needs.{needs}
 use Rattle.records.proofs.read.Statement.{statement}
 use Rattle.records.proofs.read.Tie as tie
-
-refuse-requires : tie.Need-refuse-requires
-refuse-requires c κs = search needs
-
-returns : tie.Need-returns
-returns c = rw (eq-eqb _ _ (c .before .if1 .taken)) (c .refuse .ensures)
-
-refuse-requires-2 : tie.Need-refuse-requires-2
-refuse-requires-2 c κs = search needs
-
-returns-2 : tie.Need-returns-2
-returns-2 c = rw (ne-eqb _ _ (c .before .before .before .if1 .left), le-leb _ _ (c .before .if2 .taken)) (c .refuse2 .ensures)
 
 enum-known-phase : tie.Need-enum-known-phase
 enum-known-phase c = search needs
@@ -32,10 +17,10 @@ enum-known-phase c = search needs
 one-less-requires : tie.Need-one-less-requires
 one-less-requires c κs = search needs
 
-add-t12 : tie.Need-add-t12
-add-t12 c =
+add-t10 : tie.Need-add-t10
+add-t10 c =
     let told = c .before .before .before in
-    let s = told .before .before .before .before .before .before .before in
+    let s = told .before .before .before in
     let low = rw (told .phase .given .1) at (s .pre .0) in
     omega arith
 
@@ -45,41 +30,33 @@ to-read-requires c κs = search needs
 find-at-requires : tie.Need-find-at-requires
 find-at-requires c κs = search needs
 
-refuse-requires-3 : tie.Need-refuse-requires-3
-refuse-requires-3 c κs = search needs
+refuse-requires : tie.Need-refuse-requires
+refuse-requires c κs = search needs
 
-returns-3 : tie.Need-returns-3
-returns-3 c =
+returns : tie.Need-returns
+returns c =
     let w = c .before in
     let o = w .before .before in
     let told = o .before .before in
-    let e = told .before .before in
-    let a = e .before .before .before .before .before .args in
+    let a = told .before .before .before .args in
     let next = told .phase .given .0 .1 .0 in
     let after = w .to-read .ensures ∙ ap (λ (n : ℕ). reading n (place (next .0 + 1))) (o .one-less .ensures) in
-    rw (ne-eqb _ _ (e .before .before .if1 .left), lt-leb _ _ (e .if2 .left))
-    (c .find-at .ensures ∙ ap (recordFound (a .seen) (a .view) (a .book .now) next) after ∙ sym (ap (readAt (a .seen) (a .view) (a .book .now)) (told .phase .given .1)))
+    c .find-at .ensures ∙ ap (recordFound (a .seen) (a .view) (a .book .now) next) after ∙ sym (ap (readBy (a .seen) (a .view) (a .book .now)) (told .phase .given .1))
 
-returns-4 : tie.Need-returns-4
-returns-4 c =
-    let e = c .before .before in
-    let s = e .before .before .before .before .before .args .seen in
-    rw (ne-eqb _ _ (e .before .before .if1 .left), lt-leb _ _ (e .if2 .left))
-    (c .refuse3 .ensures ∙ sym (not-reading (refused s 13) _ (s .phase) (c .before .match .keys2)))
+returns-2 : tie.Need-returns-2
+returns-2 c =
+    let s = c .before .before .before .args .seen in
+    c .refuse .ensures ∙ sym (not-reading (refused s 13) _ (s .phase) (c .before .match .keys2))
 
 pub read-spec : {M : Type 1} → statement M
 read-spec =
     tie.close
     (tie.spec
-    refuse-requires
-    returns
-    refuse-requires-2
-    returns-2
     enum-known-phase
     one-less-requires
-    add-t12
+    add-t10
     to-read-requires
     find-at-requires
-    refuse-requires-3
-    returns-3
-    returns-4)
+    refuse-requires
+    returns
+    returns-2)

@@ -1,6 +1,6 @@
 -- `run_sound` meets its contract: each turn of the loop is one event of the run.
-use Prim.Native.Nat.{ℕ, _+_, _-_, _*_, _≤_, _<_}
-use mathlib.Core.Path.{_≡_, refl, sym, ap, _∙_}
+use Prim.Native.Nat.{ℕ, _+_, _-_, _≤_, _<_}
+use mathlib.Core.Path.{_≡_, sym, ap, _∙_}
 use native.Mathlib.Omega.{arith}
 use lib.ListN.{length}
 use borrow.Author.Needs.{needs}
@@ -256,7 +256,7 @@ loop-again-2 c =
     let done = woken-called (l .loop .next) (l .loop .book) (G .good .facts .base .few) (is-sound _ _ _ _ _ _ _ _ _ _ G) (event co) (lane-of e) (by-lane e)
     (d .decide .result) _ (seen-at e) (sees e) (d .decide .ensures .0) (d .decide .ensures .1) (e .entry-of .result) (w .wakes .given .0 .0) (wake .entry-of2 .result) (c .wake-with .result) (e .entry-of .ensures .0) (w .wakes .given .1) (wake .entry-of2 .ensures .0) (c .wake-with .ensures) in
     goes-on _ _ _ _ _ _ _ _ _ _ G (event co) (cursor co) (event-is co) (d .decide .result .answer) _ _ (done .called)
-    _ _ (p .put-answer2 .ensures .0) (p .put-answer2 .ensures .1) _ (G .gathered ∙ sym (done .gathered)) (d .decide .kept .1 .1 .1 .0) (p .put-answer2 .kept .0) _ (at-is co)
+    _ _ (p .put-answer2 .ensures .0) (p .put-answer2 .ensures .1) _ (G .gathered ∙ sym (done .gathered)) (d .decide .kept .1 .1 .1 .1 .0) (p .put-answer2 .kept .0) _ (at-is co)
 
 enum-told-2 : tie.Need-enum-told-2 Inv-loop μ-loop
 enum-told-2 c = search needs
@@ -276,7 +276,7 @@ loop-again-3 c =
     let done = none-called (l .loop .next) (l .loop .book) (G .good .facts .base .few) (is-sound _ _ _ _ _ _ _ _ _ _ G) (event co) (lane-of e) (by-lane e)
     (d .decide .result) _ (seen-at e) (sees e) (d .decide .ensures .0) (d .decide .ensures .1) (e .entry-of .result) (e .entry-of .ensures .0) (c .enum-told2 .given .1) in
     goes-on _ _ _ _ _ _ _ _ _ _ G (event co) (cursor co) (event-is co) (d .decide .result .answer) _ _ (done .called)
-    _ _ (p .put-answer2 .ensures .0) (p .put-answer2 .ensures .1) _ (G .gathered ∙ sym (done .gathered)) (d .decide .kept .1 .1 .1 .0) (p .put-answer2 .kept .0) _ (at-is co)
+    _ _ (p .put-answer2 .ensures .0) (p .put-answer2 .ensures .1) _ (G .gathered ∙ sym (done .gathered)) (d .decide .kept .1 .1 .1 .1 .0) (p .put-answer2 .kept .0) _ (at-is co)
 
 pub run-sound-spec : {M : Type 1} → statement M
 run-sound-spec =

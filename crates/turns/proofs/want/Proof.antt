@@ -1,5 +1,5 @@
 -- `want` meets its contract: the tests in order.
-use borrow.Author.Tests.{eq-eqb, le-leb, le-ltb, lt-leb, lt-ltb, ne-eqb}
+use borrow.Author.Tests.{le-ltb, lt-ltb}
 use borrow.Author.Needs.{needs}
 use Rattle.turns.proofs.want.Statement.{statement}
 use Rattle.turns.proofs.want.Tie as tie
@@ -8,44 +8,25 @@ refuse-requires : tie.Need-refuse-requires
 refuse-requires c κs = search needs
 
 returns : tie.Need-returns
-returns c = rw (eq-eqb _ _ (c .before .if1 .taken)) (c .refuse .ensures)
+returns c = rw (lt-ltb _ _ (c .before .if1 .taken)) (c .refuse .ensures)
 
 refuse-requires-2 : tie.Need-refuse-requires-2
 refuse-requires-2 c κs = search needs
 
 returns-2 : tie.Need-returns-2
-returns-2 c = rw (ne-eqb _ _ (c .before .before .before .if1 .left), le-leb _ _ (c .before .if2 .taken)) (c .refuse2 .ensures)
+returns-2 c = rw (le-ltb _ _ (c .before .before .if1 .left), c .before .if2 .taken) (c .refuse2 .ensures)
+
+is-idle-requires : tie.Need-is-idle-requires
+is-idle-requires c κs = search needs
 
 refuse-requires-3 : tie.Need-refuse-requires-3
 refuse-requires-3 c κs = search needs
 
 returns-3 : tie.Need-returns-3
 returns-3 c =
-    let e = c .before .before in
-    rw (ne-eqb _ _ (e .before .before .if1 .left), lt-leb _ _ (e .if2 .left), lt-ltb _ _ (c .before .if3 .taken)) (c .refuse3 .ensures)
-
-refuse-requires-4 : tie.Need-refuse-requires-4
-refuse-requires-4 c κs = search needs
-
-returns-4 : tie.Need-returns-4
-returns-4 c =
-    let f = c .before .before in
-    let e = f .before in
-    rw (ne-eqb _ _ (e .before .before .if1 .left), lt-leb _ _ (e .if2 .left), le-ltb _ _ (f .if3 .left), c .before .if4 .taken) (c .refuse4 .ensures)
-
-is-idle-requires : tie.Need-is-idle-requires
-is-idle-requires c κs = search needs
-
-refuse-requires-5 : tie.Need-refuse-requires-5
-refuse-requires-5 c κs = search needs
-
-returns-5 : tie.Need-returns-5
-returns-5 c =
     let h = c .before .before in
     let g = h .before in
-    let f = g .before in
-    let e = f .before in
-    rw (ne-eqb _ _ (e .before .before .if1 .left), lt-leb _ _ (e .if2 .left), le-ltb _ _ (f .if3 .left), g .if4 .left, ← h .is-idle .ensures, c .before .if5 .taken) (c .refuse5 .ensures)
+    rw (le-ltb _ _ (g .before .if1 .left), g .if2 .left, ← h .is-idle .ensures, c .before .if3 .taken) (c .refuse3 .ensures)
 
 others-down-requires : tie.Need-others-down-requires
 others-down-requires c κs = search needs
@@ -56,15 +37,13 @@ purpose-of-requires c κs = search needs
 raise-requires : tie.Need-raise-requires
 raise-requires c κs = search needs
 
-returns-6 : tie.Need-returns-6
-returns-6 c =
+returns-4 : tie.Need-returns-4
+returns-4 c =
     let p = c .before in
     let o = p .before in
     let h = o .before .before in
     let g = h .before in
-    let f = g .before in
-    let e = f .before in
-    rw (ne-eqb _ _ (e .before .before .if1 .left), lt-leb _ _ (e .if2 .left), le-ltb _ _ (f .if3 .left), g .if4 .left, ← h .is-idle .ensures, o .before .if5 .left, ← o .others-down .ensures, ← p .purpose-of .ensures) (c .raise .ensures)
+    rw (le-ltb _ _ (g .before .if1 .left), g .if2 .left, ← h .is-idle .ensures, o .before .if3 .left, ← o .others-down .ensures, ← p .purpose-of .ensures) (c .raise .ensures)
 
 pub want-spec : {M : Type 1} → statement M
 want-spec =
@@ -74,14 +53,10 @@ want-spec =
     returns
     refuse-requires-2
     returns-2
+    is-idle-requires
     refuse-requires-3
     returns-3
-    refuse-requires-4
-    returns-4
-    is-idle-requires
-    refuse-requires-5
-    returns-5
     others-down-requires
     purpose-of-requires
     raise-requires
-    returns-6)
+    returns-4)
