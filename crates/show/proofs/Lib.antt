@@ -1,0 +1,2 @@
+-- The laws of sheets in words.
+pub mod Shown
