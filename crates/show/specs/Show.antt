@@ -7,6 +7,7 @@ use Rattle.view.specs.declared.Block.{Block}
 use Rattle.event.specs.BigEndian.{unsigned}
 use Rattle.event.specs.declared.Blocks.{Blocks}
 use Rattle.event.specs.declared.Event.{Event}
+use Rattle.digits.specs.Stored.{Stored}
 use Rattle.sheet.specs.Text.{ascii}
 use Rattle.sheet.specs.Print.{decimal, hexIn, words}
 use Rattle.notation.specs.declared.Parsed.{Parsed}
@@ -15,6 +16,14 @@ use Rattle.notation.specs.declared.Spot.{Spot}
 -- the longest line that a function here asks room for
 abbrev pub mostLine : ℕ
 mostLine = 640
+
+-- the longest line of an event from its kind's word on: a view's three names with a number of 20 digits each, and eight blocks
+abbrev pub mostWords : ℕ
+mostWords = 463
+
+-- two texts stored one after the other, as `Stored` says it of one
+pub record StoredTwo (xs ys before : List ℕ) (at : ℕ) (after : List ℕ) (answer : ℕ) : Type 0 where
+  pub both : Stored (xs ++ ys) before at after answer
 
 -- a number of two's complement in four bytes, in decimal with its sign
 abbrev pub signedText : ℕ → List ℕ

@@ -9,17 +9,15 @@ use words::LINE_END;
 use words::put_number;
 use words::put_record;
 use words::put_word;
-use words::wide8;
-use words::wide16;
-use words::wide32;
 ghost use Prim.Native.Nat.{_+_, _≤_, _<_};
 ghost use mathlib.Core.Path.{_≡_};
 ghost use mathlib.Core.List.{[], _∷_, _++_};
 ghost use lib.ListN.{length};
+ghost use Rattle.event.specs.Event.{fieldsOf};
 ghost use Rattle.sheet.specs.Text.{ascii};
 ghost use Rattle.sheet.specs.Print.{decimal, hexIn, words};
 ghost use Rattle.digits.specs.Stored.{Stored};
-ghost use Rattle.show.specs.Show.{blockText, blockWords, eventLine, eventWords, mostLine, parseLine, reason, refusalLine, signedText, spotLine};
+ghost use Rattle.show.specs.Show.{StoredTwo, blockText, blockWords, eventLine, eventWords, mostLine, mostWords, parseLine, reason, refusalLine, signedText, spotLine};
 
 // A word and the byte after it. All functions here return the index after what they stored.
 fn word(out: &mut [u8], at: usize, text: &[u8], after: u8) -> usize
@@ -54,46 +52,50 @@ fn recorded(out: &mut [u8], at: usize, content: u64) -> usize
     put_record(out, at, content)
 }
 
+// A name, a number and the byte after it.
+fn named(out: &mut [u8], at: usize, name: &[u8], n: u64, after: u8) -> usize
+    requires { ⌜ at + length (now name) + 22 ≤ length (now out) ⌝ }
+    ensures { λ r. ⌜ StoredTwo (now (name .entry) ++ 32 ∷ []) (decimal n ++ after ∷ []) (now (out .entry)) at (now (out .exit)) r × (r ≤ at + length (now (name .entry)) + 22) ⌝ }
+{
+    let next = word(out, at, name, BLANK);
+    number(out, next, n, after)
+}
+
 // Two named numbers, to the line's end.
-fn put_fields(out: &mut [u8], at: usize, first: &[u8], a: u64, second: &[u8], b: u64) -> usize
+fn put_fields(out: &mut [u8], at: usize, first: &[u8], a: u8, second: &[u8], b: u64) -> usize
     requires { ⌜ at + length (now first) + length (now second) + 44 ≤ length (now out) ⌝ }
     ensures { λ r. ⌜ Stored (words (now (first .entry) ∷ decimal a ∷ now (second .entry) ∷ decimal b ∷ [])) (now (out .entry)) at (now (out .exit)) r × (r ≤ length (now (out .entry))) ⌝ }
 {
-    let next = word(out, at, first, BLANK);
-    let then = number(out, next, a, BLANK);
-    let last = word(out, then, second, BLANK);
-    number(out, last, b, LINE_END)
-}
-
-// One named number, to the line's end.
-fn put_field(out: &mut [u8], at: usize, name: &[u8], n: u64) -> usize
-    requires { ⌜ at + length (now name) + 22 ≤ length (now out) ⌝ }
-    ensures { λ r. ⌜ Stored (words (now (name .entry) ∷ decimal n ∷ [])) (now (out .entry)) at (now (out .exit)) r × (r ≤ length (now (out .entry))) ⌝ }
-{
-    let next = word(out, at, name, BLANK);
-    number(out, next, n, LINE_END)
+    let next = named(out, at, first, a as u64, BLANK);
+    named(out, next, second, b, LINE_END)
 }
 
 // 05 write: a lane and a record.
-fn put_write(out: &mut [u8], at: usize, lane: u64, content: u64) -> usize
-    requires { ⌜ at + 200 ≤ length (now out) ⌝ }
+fn put_write(out: &mut [u8], at: usize, lane: u8, content: u64) -> usize
+    requires { ⌜ at + mostWords ≤ length (now out) ⌝ }
     ensures { λ r. ⌜ Stored (words (ascii "write lane" ∷ decimal lane ∷ ascii "record" ∷ hexIn 16 content ∷ [])) (now (out .entry)) at (now (out .exit)) r × (r ≤ length (now (out .entry))) ⌝ }
 {
-    let next = word(out, at, b"write lane", BLANK);
-    let then = number(out, next, lane, BLANK);
-    recorded(out, then, content)
+    let next = named(out, at, b"write lane", lane as u64, BLANK);
+    recorded(out, next, content)
 }
 
 // 07 put: a lane, a place and a record.
-fn put_put(out: &mut [u8], at: usize, lane: u64, place: u64, content: u64) -> usize
-    requires { ⌜ at + 200 ≤ length (now out) ⌝ }
+fn put_put(out: &mut [u8], at: usize, lane: u8, place: u32, content: u64) -> usize
+    requires { ⌜ at + mostWords ≤ length (now out) ⌝ }
     ensures { λ r. ⌜ Stored (words (ascii "put lane" ∷ decimal lane ∷ ascii "place" ∷ decimal place ∷ ascii "record" ∷ hexIn 16 content ∷ [])) (now (out .entry)) at (now (out .exit)) r × (r ≤ length (now (out .entry))) ⌝ }
 {
-    let next = word(out, at, b"put lane", BLANK);
-    let second = number(out, next, lane, BLANK);
-    let third = word(out, second, b"place", BLANK);
-    let last = number(out, third, place, BLANK);
-    recorded(out, last, content)
+    let next = named(out, at, b"put lane", lane as u64, BLANK);
+    let then = named(out, next, b"place", place as u64, BLANK);
+    recorded(out, then, content)
+}
+
+// A number, the byte after it and a blank.
+fn put_marked(out: &mut [u8], at: usize, n: u64, after: u8) -> usize
+    requires { ⌜ at + 22 ≤ length (now out) ⌝ }
+    ensures { λ r. ⌜ StoredTwo (decimal n ++ after ∷ []) (32 ∷ []) (now (out .entry)) at (now (out .exit)) r × (r ≤ at + 22) ⌝ }
+{
+    let end = number(out, at, n, after);
+    mark(out, end, BLANK)
 }
 
 // A block and the byte after it.
@@ -102,21 +104,18 @@ fn put_block(out: &mut [u8], at: usize, block: Block, after: u8) -> usize
     ensures { λ r. ⌜ Stored (blockText block ++ after ∷ []) (now (out .entry)) at (now (out .exit)) r × (r ≤ at + 46) ⌝ }
 {
     let to1 = mark(out, at, b'(');
-    let to2 = number(out, to1, wide16(block.start), b',');
-    let to3 = mark(out, to2, BLANK);
-    let to4 = number(out, to3, wide16(block.length), b')');
-    mark(out, to4, after)
+    let to2 = put_marked(out, to1, block.start as u64, b',');
+    let to3 = number(out, to2, block.length as u64, b')');
+    mark(out, to3, after)
 }
 
-// The last four blocks of a view, to the line's end.
-fn put_last_blocks(out: &mut [u8], at: usize, blocks: Blocks) -> usize
-    requires { ⌜ at + 184 ≤ length (now out) ⌝ }
-    ensures { λ r. ⌜ Stored (words (blockText (blocks .b4) ∷ blockText (blocks .b5) ∷ blockText (blocks .b6) ∷ blockText (blocks .b7) ∷ [])) (now (out .entry)) at (now (out .exit)) r × (r ≤ at + 184) ⌝ }
+// Two blocks and the byte after them.
+fn put_two_blocks(out: &mut [u8], at: usize, a: Block, b: Block, after: u8) -> usize
+    requires { ⌜ at + 92 ≤ length (now out) ⌝ }
+    ensures { λ r. ⌜ StoredTwo (blockText a ++ 32 ∷ []) (blockText b ++ after ∷ []) (now (out .entry)) at (now (out .exit)) r × (r ≤ at + 92) ⌝ }
 {
-    let to5 = put_block(out, at, blocks.b4, BLANK);
-    let to6 = put_block(out, to5, blocks.b5, BLANK);
-    let to7 = put_block(out, to6, blocks.b6, BLANK);
-    put_block(out, to7, blocks.b7, LINE_END)
+    let next = put_block(out, at, a, BLANK);
+    put_block(out, next, b, after)
 }
 
 // The eight blocks of a view, to the line's end.
@@ -124,133 +123,110 @@ fn put_blocks(out: &mut [u8], at: usize, blocks: Blocks) -> usize
     requires { ⌜ at + 368 ≤ length (now out) ⌝ }
     ensures { λ r. ⌜ Stored (words (blockWords blocks)) (now (out .entry)) at (now (out .exit)) r × (r ≤ at + 368) ⌝ }
 {
-    let to1 = put_block(out, at, blocks.b0, BLANK);
-    let to2 = put_block(out, to1, blocks.b1, BLANK);
-    let to3 = put_block(out, to2, blocks.b2, BLANK);
-    let to4 = put_block(out, to3, blocks.b3, BLANK);
-    put_last_blocks(out, to4, blocks)
-}
-
-// A number of two's complement, with its sign, and the byte after it.
-fn put_signed(out: &mut [u8], at: usize, n: u32, after: u8) -> usize
-    requires { ⌜ at + 22 ≤ length (now out) ⌝ }
-    ensures { λ r. ⌜ Stored (signedText n ++ after ∷ []) (now (out .entry)) at (now (out .exit)) r × (r ≤ length (now (out .entry))) ⌝ }
-{
-    if n < 2147483648 {
-        return number(out, at, wide32(n), after);
-    }
-    let next = mark(out, at, b'-');
-    number(out, next, 4294967296 - wide32(n), after)
-}
-
-// 0C seek: a whence and a signed offset.
-fn put_seek(out: &mut [u8], at: usize, whence: u64, offset: u32) -> usize
-    requires { ⌜ at + 100 ≤ length (now out) ⌝ }
-    ensures { λ r. ⌜ Stored (words (ascii "seek whence" ∷ decimal whence ∷ ascii "offset" ∷ signedText offset ∷ [])) (now (out .entry)) at (now (out .exit)) r × (r ≤ length (now (out .entry))) ⌝ }
-{
-    let next = word(out, at, b"seek whence", BLANK);
-    let then = number(out, next, whence, BLANK);
-    let last = word(out, then, b"offset", BLANK);
-    put_signed(out, last, offset, LINE_END)
-}
-
-// 0B view from its extent on.
-fn put_tile(out: &mut [u8], at: usize, extent: u64, used: u64, blocks: Blocks) -> usize
-    requires { ⌜ at + 424 ≤ length (now out) ⌝ }
-    ensures { λ r. ⌜ Stored (words (ascii "extent" ∷ decimal extent ∷ ascii "blocks" ∷ decimal used ∷ blockWords blocks)) (now (out .entry)) at (now (out .exit)) r × (r ≤ at + 424) ⌝ }
-{
-    let to1 = word(out, at, b"extent", BLANK);
-    let to2 = number(out, to1, extent, BLANK);
-    let to3 = word(out, to2, b"blocks", BLANK);
-    let to4 = number(out, to3, used, BLANK);
-    put_blocks(out, to4, blocks)
+    let to1 = put_two_blocks(out, at, blocks.b0, blocks.b1, BLANK);
+    let to2 = put_two_blocks(out, to1, blocks.b2, blocks.b3, BLANK);
+    let to3 = put_two_blocks(out, to2, blocks.b4, blocks.b5, BLANK);
+    put_two_blocks(out, to3, blocks.b6, blocks.b7, LINE_END)
 }
 
 // 0B view.
 fn put_view(
     out: &mut [u8],
     at: usize,
-    displacement: u64,
-    extent: u64,
-    used: u64,
+    displacement: u32,
+    extent: u16,
+    used: u8,
     blocks: Blocks,
 ) -> usize
-    requires { ⌜ at + 463 ≤ length (now out) ⌝ }
+    requires { ⌜ at + mostWords ≤ length (now out) ⌝ }
     ensures { λ r. ⌜ Stored (words (ascii "view displacement" ∷ decimal displacement ∷ ascii "extent" ∷ decimal extent ∷ ascii "blocks" ∷ decimal used ∷ blockWords blocks)) (now (out .entry)) at (now (out .exit)) r × (r ≤ length (now (out .entry))) ⌝ }
 {
-    let next = word(out, at, b"view displacement", BLANK);
-    let then = number(out, next, displacement, BLANK);
-    put_tile(out, then, extent, used, blocks)
+    let to1 = named(out, at, b"view displacement", displacement as u64, BLANK);
+    let to2 = named(out, to1, b"extent", extent as u64, BLANK);
+    let to3 = named(out, to2, b"blocks", used as u64, BLANK);
+    put_blocks(out, to3, blocks)
 }
 
-// An event's line from its kind's word on.
-fn put_event(out: &mut [u8], at: usize, event: Event) -> usize
-    requires { ⌜ at + 463 ≤ length (now out) ⌝ }
+// A number of two's complement, with its sign, and the byte after it.
+fn put_signed(out: &mut [u8], at: usize, n: u32, after: u8) -> usize
+    requires { ⌜ at + 22 ≤ length (now out) ⌝ }
+    ensures { λ r. ⌜ Stored (signedText n ++ after ∷ []) (now (out .entry)) at (now (out .exit)) r × (r ≤ at + 22) ⌝ }
+{
+    if n < 2147483648 {
+        return number(out, at, n as u64, after);
+    }
+    let next = mark(out, at, b'-');
+    number(out, next, 4294967296 - n as u64, after)
+}
+
+// 0C seek: a whence and a signed offset.
+fn put_seek(out: &mut [u8], at: usize, whence: u8, offset: u32) -> usize
+    requires { ⌜ at + mostWords ≤ length (now out) ⌝ }
+    ensures { λ r. ⌜ Stored (words (ascii "seek whence" ∷ decimal whence ∷ ascii "offset" ∷ signedText offset ∷ [])) (now (out .entry)) at (now (out .exit)) r × (r ≤ length (now (out .entry))) ⌝ }
+{
+    let next = named(out, at, b"seek whence", whence as u64, BLANK);
+    let then = word(out, next, b"offset", BLANK);
+    put_signed(out, then, offset, LINE_END)
+}
+
+// An event with a lane alone, or one of an unlisted kind.
+fn put_short(out: &mut [u8], at: usize, event: Event) -> usize
+    requires { ⌜ (at + mostWords ≤ length (now out)) × (length (fieldsOf event) ≤ 1) ⌝ }
+    ensures { λ r. ⌜ Stored (words (eventWords event)) (now (out .entry)) at (now (out .exit)) r × (r ≤ length (now (out .entry))) ⌝ }
+{
+    match event {
+        Event::Receive { lane } => named(out, at, b"receive lane", lane as u64, LINE_END),
+        Event::Read { lane } => named(out, at, b"read lane", lane as u64, LINE_END),
+        Event::Free { lane } => named(out, at, b"free lane", lane as u64, LINE_END),
+        _ => word(out, at, b"unlisted", LINE_END),
+    }
+}
+
+// An event of at most two fields.
+fn put_pair(out: &mut [u8], at: usize, event: Event) -> usize
+    requires { ⌜ (at + mostWords ≤ length (now out)) × (length (fieldsOf event) ≤ 2) ⌝ }
     ensures { λ r. ⌜ Stored (words (eventWords event)) (now (out .entry)) at (now (out .exit)) r × (r ≤ length (now (out .entry))) ⌝ }
 {
     match event {
         Event::Open { lanes, capacity } => {
-            put_fields(
-                out,
-                at,
-                b"open lanes",
-                wide8(lanes),
-                b"capacity",
-                wide32(capacity),
-            )
+            put_fields(out, at, b"open lanes", lanes, b"capacity", capacity as u64)
         }
         Event::Want { lane, purpose } => {
-            put_fields(
-                out,
-                at,
-                b"want lane",
-                wide8(lane),
-                b"purpose",
-                wide8(purpose),
-            )
+            put_fields(out, at, b"want lane", lane, b"purpose", purpose as u64)
         }
-        Event::Receive { lane } => put_field(out, at, b"receive lane", wide8(lane)),
         Event::Take { lane, count } => {
-            put_fields(out, at, b"take lane", wide8(lane), b"count", wide16(count))
+            put_fields(out, at, b"take lane", lane, b"count", count as u64)
         }
-        Event::Write { lane, content } => put_write(out, at, wide8(lane), content),
-        Event::Read { lane } => put_field(out, at, b"read lane", wide8(lane)),
+        Event::Write { lane, content } => put_write(out, at, lane, content),
+        Event::Look { lane, place } => {
+            put_fields(out, at, b"look lane", lane, b"place", place.0 as u64)
+        }
+        Event::Enter { lane, count } => {
+            put_fields(out, at, b"enter lane", lane, b"count", count as u64)
+        }
+        Event::Seek { whence, offset } => put_seek(out, at, whence, pack::unsigned_of(offset)),
+        _ => put_short(out, at, event),
+    }
+}
+
+// An event's line from its kind's word on.
+fn put_event(out: &mut [u8], at: usize, event: Event) -> usize
+    requires { ⌜ at + mostWords ≤ length (now out) ⌝ }
+    ensures { λ r. ⌜ Stored (words (eventWords event)) (now (out .entry)) at (now (out .exit)) r × (r ≤ length (now (out .entry))) ⌝ }
+{
+    match event {
         Event::Put {
             lane,
             place,
             content,
-        } => put_put(out, at, wide8(lane), wide32(place.0), content),
-        Event::Look { lane, place } => {
-            put_fields(
-                out,
-                at,
-                b"look lane",
-                wide8(lane),
-                b"place",
-                wide32(place.0),
-            )
-        }
-        Event::Free { lane } => put_field(out, at, b"free lane", wide8(lane)),
-        Event::Enter { lane, count } => {
-            put_fields(out, at, b"enter lane", wide8(lane), b"count", wide16(count))
-        }
+        } => put_put(out, at, lane, place.0, content),
         Event::View {
             displacement,
             extent,
             used,
             blocks,
-        } => put_view(
-            out,
-            at,
-            wide32(displacement),
-            wide16(extent),
-            wide8(used),
-            blocks,
-        ),
-        Event::Seek { whence, offset } => {
-            put_seek(out, at, wide8(whence), pack::unsigned_of(offset))
-        }
-        Event::Unlisted => word(out, at, b"unlisted", LINE_END),
+        } => put_view(out, at, displacement, extent, used, blocks),
+        _ => put_pair(out, at, event),
     }
 }
 
@@ -261,15 +237,6 @@ pub fn show_event(out: &mut [u8], count: u64, event: Event) -> usize
 {
     let next = number(out, 0, count, BLANK);
     put_event(out, next, event)
-}
-
-// A number, the byte after it and a blank.
-fn put_marked(out: &mut [u8], at: usize, n: u64, after: u8) -> usize
-    requires { ⌜ at + 22 ≤ length (now out) ⌝ }
-    ensures { λ r. ⌜ Stored ((decimal n ++ after ∷ []) ++ 32 ∷ []) (now (out .entry)) at (now (out .exit)) r × (r ≤ at + 22) ⌝ }
-{
-    let end = number(out, at, n, after);
-    mark(out, end, BLANK)
 }
 
 // Why bytes are no event: refusal 2 or 3.

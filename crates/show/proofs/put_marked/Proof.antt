@@ -1,36 +1,20 @@
 -- `show::put_marked` meets its contract: the number, then a blank.
-use native.Mathlib.Omega.{arith}
 use Rattle.digits.proofs.Stores.{and-then}
 use borrow.Author.Needs.{needs}
 use Rattle.show.proofs.put_marked.Statement.{statement}
 use Rattle.show.proofs.put_marked.Tie as tie
 
 number-requires : tie.Need-number-requires
-number-requires c κs =
-    let s = c .before .before in
-    omega (arith, s .pre)
+number-requires c κs = search needs
 
 mark-requires : tie.Need-mark-requires
-mark-requires c κs =
-    let at1 = c .before .before .before in
-    let s = at1 .before .before .before in
-    omega (arith, s .pre, at1 .number .ensures .1)
+mark-requires c κs = search needs
 
 same-length : tie.Need-same-length
 same-length c = search needs
 
 returns : tie.Need-returns
-returns c =
-    let at2 = c .before .before in
-    let at1 = at2 .before .before .before .before in
-    let s = at1 .before .before .before in
-    (and-then (at1 .number .ensures .0) (at2 .mark .ensures .0), omega (arith, s .pre, at1 .number .ensures .1, at2 .mark .ensures .1))
+returns c = search (and-then, needs)
 
 pub put-marked-spec : {M : Type 1} → statement M
-put-marked-spec =
-    tie.close
-    (tie.spec
-    number-requires
-    mark-requires
-    same-length
-    returns)
+put-marked-spec = tie.close (tie.spec number-requires mark-requires same-length returns)

@@ -1,76 +1,40 @@
 -- `show::put_put` meets its contract: the lane, the place, then the record.
-use native.Mathlib.Omega.{arith}
-use Rattle.digits.proofs.Stores.{and-then}
 use Rattle.sheet.specs.Print.{words}
+use Rattle.show.proofs.Shown.{two-then}
 use borrow.Author.Needs.{needs}
 use Rattle.show.proofs.put_put.Statement.{statement}
 use Rattle.show.proofs.put_put.Tie as tie
 
-slice-aggregate-word : tie.Need-slice-aggregate-word
-slice-aggregate-word c = search needs
+slice-aggregate-named : tie.Need-slice-aggregate-named
+slice-aggregate-named c = search needs
 
-word-requires : tie.Need-word-requires
-word-requires c κs =
-    let s = c .before .before .before in
-    omega (arith, s .pre)
+named-requires : tie.Need-named-requires
+named-requires c κs = search needs
 
-number-requires : tie.Need-number-requires
-number-requires c κs =
-    let at1 = c .before .before .before in
-    let s = at1 .before .before .before .before in
-    omega (arith, s .pre, at1 .word .ensures .1)
+slice-aggregate-named-2 : tie.Need-slice-aggregate-named-2
+slice-aggregate-named-2 c = search needs
 
-slice-aggregate-word-2 : tie.Need-slice-aggregate-word-2
-slice-aggregate-word-2 c = search needs
-
-word-requires-2 : tie.Need-word-requires-2
-word-requires-2 c κs =
-    let at2 = c .before .before .before .before in
-    let at1 = at2 .before .before .before .before in
-    let s = at1 .before .before .before .before in
-    omega (arith, s .pre, at1 .word .ensures .1, at2 .number .ensures .1)
-
-number-requires-2 : tie.Need-number-requires-2
-number-requires-2 c κs =
-    let at3 = c .before .before .before in
-    let at2 = at3 .before .before .before .before .before in
-    let at1 = at2 .before .before .before .before in
-    let s = at1 .before .before .before .before in
-    omega (arith, s .pre, at1 .word .ensures .1, at2 .number .ensures .1, at3 .word2 .ensures .1)
+named-requires-2 : tie.Need-named-requires-2
+named-requires-2 c κs = search needs
 
 recorded-requires : tie.Need-recorded-requires
-recorded-requires c κs =
-    let at4 = c .before .before .before in
-    let at3 = at4 .before .before .before .before in
-    let at2 = at3 .before .before .before .before .before in
-    let at1 = at2 .before .before .before .before in
-    let s = at1 .before .before .before .before in
-    omega (arith, s .pre, at1 .word .ensures .1, at2 .number .ensures .1, at3 .word2 .ensures .1, at4 .number2 .ensures .1)
+recorded-requires c κs = search needs
 
 same-length : tie.Need-same-length
 same-length c = search needs
 
 returns : tie.Need-returns
 unfolding words
-returns c =
-    let at5 = c .before .before in
-    let at4 = at5 .before .before .before .before in
-    let at3 = at4 .before .before .before .before in
-    let at2 = at3 .before .before .before .before .before in
-    let at1 = at2 .before .before .before .before in
-    let s = at1 .before .before .before .before in
-    (and-then (at1 .word .ensures .0) (and-then (at2 .number .ensures .0) (and-then (at3 .word2 .ensures .0) (and-then (at4 .number2 .ensures .0) (at5 .recorded .ensures .0)))), omega (arith, s .pre, at1 .word .ensures .1, at2 .number .ensures .1, at3 .word2 .ensures .1, at4 .number2 .ensures .1, at5 .recorded .ensures .1))
+returns c = search (two-then, needs)
 
 pub put-put-spec : {M : Type 1} → statement M
 put-put-spec =
     tie.close
     (tie.spec
-    slice-aggregate-word
-    word-requires
-    number-requires
-    slice-aggregate-word-2
-    word-requires-2
-    number-requires-2
+    slice-aggregate-named
+    named-requires
+    slice-aggregate-named-2
+    named-requires-2
     recorded-requires
     same-length
     returns)

@@ -1,65 +1,41 @@
 -- `show::put_seek` meets its contract: the whence, then the offset.
-use native.Mathlib.Omega.{arith}
 use Rattle.digits.proofs.Stores.{and-then}
 use Rattle.sheet.specs.Print.{words}
+use Rattle.show.proofs.Shown.{two-then}
 use borrow.Author.Needs.{needs}
 use Rattle.show.proofs.put_seek.Statement.{statement}
 use Rattle.show.proofs.put_seek.Tie as tie
+
+slice-aggregate-named : tie.Need-slice-aggregate-named
+slice-aggregate-named c = search needs
+
+named-requires : tie.Need-named-requires
+named-requires c κs = search needs
 
 slice-aggregate-word : tie.Need-slice-aggregate-word
 slice-aggregate-word c = search needs
 
 word-requires : tie.Need-word-requires
-word-requires c κs =
-    let s = c .before .before .before in
-    omega (arith, s .pre)
-
-number-requires : tie.Need-number-requires
-number-requires c κs =
-    let at1 = c .before .before .before in
-    let s = at1 .before .before .before .before in
-    omega (arith, s .pre, at1 .word .ensures .1)
-
-slice-aggregate-word-2 : tie.Need-slice-aggregate-word-2
-slice-aggregate-word-2 c = search needs
-
-word-requires-2 : tie.Need-word-requires-2
-word-requires-2 c κs =
-    let at2 = c .before .before .before .before in
-    let at1 = at2 .before .before .before .before in
-    let s = at1 .before .before .before .before in
-    omega (arith, s .pre, at1 .word .ensures .1, at2 .number .ensures .1)
+word-requires c κs = search needs
 
 put-signed-requires : tie.Need-put-signed-requires
-put-signed-requires c κs =
-    let at3 = c .before .before .before in
-    let at2 = at3 .before .before .before .before .before in
-    let at1 = at2 .before .before .before .before in
-    let s = at1 .before .before .before .before in
-    omega (arith, s .pre, at1 .word .ensures .1, at2 .number .ensures .1, at3 .word2 .ensures .1)
+put-signed-requires c κs = search needs
 
 same-length : tie.Need-same-length
 same-length c = search needs
 
 returns : tie.Need-returns
 unfolding words
-returns c =
-    let at4 = c .before .before in
-    let at3 = at4 .before .before .before .before in
-    let at2 = at3 .before .before .before .before .before in
-    let at1 = at2 .before .before .before .before in
-    let s = at1 .before .before .before .before in
-    (and-then (at1 .word .ensures .0) (and-then (at2 .number .ensures .0) (and-then (at3 .word2 .ensures .0) (at4 .put-signed .ensures .0))), omega (arith, s .pre, at1 .word .ensures .1, at2 .number .ensures .1, at3 .word2 .ensures .1, at4 .put-signed .ensures .1))
+returns c = search (two-then, and-then, needs)
 
 pub put-seek-spec : {M : Type 1} → statement M
 put-seek-spec =
     tie.close
     (tie.spec
+    slice-aggregate-named
+    named-requires
     slice-aggregate-word
     word-requires
-    number-requires
-    slice-aggregate-word-2
-    word-requires-2
     put-signed-requires
     same-length
     returns)

@@ -1,7 +1,7 @@
 -- `show::put_spot` meets its contract: the line, the column, then what was expected.
-use native.Mathlib.Omega.{arith}
 use Rattle.digits.proofs.Stores.{and-then}
 use Rattle.sheet.specs.Print.{words}
+use native.Mathlib.Omega.{arith}
 use borrow.Author.Needs.{needs}
 use Rattle.show.proofs.put_spot.Statement.{statement}
 use Rattle.show.proofs.put_spot.Tie as tie
@@ -10,56 +10,29 @@ slice-aggregate-word : tie.Need-slice-aggregate-word
 slice-aggregate-word c = search needs
 
 word-requires : tie.Need-word-requires
-word-requires c κs =
-    let s = c .before .before .before .before in
-    omega (arith, s .pre)
+word-requires c κs = search needs
 
 put-marked-requires : tie.Need-put-marked-requires
-put-marked-requires c κs =
-    let at1 = c .before .before .before in
-    let s = at1 .before .before .before .before .before in
-    omega (arith, s .pre, at1 .word .ensures .1)
+put-marked-requires c κs = search needs
 
 slice-aggregate-word-2 : tie.Need-slice-aggregate-word-2
 slice-aggregate-word-2 c = search needs
 
 word-requires-2 : tie.Need-word-requires-2
-word-requires-2 c κs =
-    let at2 = c .before .before .before .before in
-    let at1 = at2 .before .before .before .before in
-    let s = at1 .before .before .before .before .before in
-    omega (arith, s .pre, at1 .word .ensures .1, at2 .put-marked .ensures .1)
+word-requires-2 c κs = search needs
 
 put-marked-requires-2 : tie.Need-put-marked-requires-2
-put-marked-requires-2 c κs =
-    let at3 = c .before .before .before in
-    let at2 = at3 .before .before .before .before .before in
-    let at1 = at2 .before .before .before .before in
-    let s = at1 .before .before .before .before .before in
-    omega (arith, s .pre, at1 .word .ensures .1, at2 .put-marked .ensures .1, at3 .word2 .ensures .1)
+put-marked-requires-2 c κs = search needs
 
 word-requires-3 : tie.Need-word-requires-3
-word-requires-3 c κs =
-    let at4 = c .before .before .before in
-    let at3 = at4 .before .before .before .before in
-    let at2 = at3 .before .before .before .before .before in
-    let at1 = at2 .before .before .before .before in
-    let s = at1 .before .before .before .before .before in
-    omega (arith, s .pre, at1 .word .ensures .1, at2 .put-marked .ensures .1, at3 .word2 .ensures .1, at4 .put-marked2 .ensures .1)
+word-requires-3 c κs = search needs
 
 same-length : tie.Need-same-length
 same-length c = search needs
 
 returns : tie.Need-returns
 unfolding words
-returns c =
-    let at5 = c .before .before in
-    let at4 = at5 .before .before .before .before in
-    let at3 = at4 .before .before .before .before in
-    let at2 = at3 .before .before .before .before .before in
-    let at1 = at2 .before .before .before .before in
-    let s = at1 .before .before .before .before .before in
-    (and-then (at1 .word .ensures .0) (and-then (at2 .put-marked .ensures .0) (and-then (at3 .word2 .ensures .0) (and-then (at4 .put-marked2 .ensures .0) (at5 .word3 .ensures .0)))), omega (arith, s .pre, at1 .word .ensures .1, at2 .put-marked .ensures .1, at3 .word2 .ensures .1, at4 .put-marked2 .ensures .1, at5 .word3 .ensures .1))
+returns c = (search (and-then, needs), omega arith)
 
 pub put-spot-spec : {M : Type 1} → statement M
 put-spot-spec =

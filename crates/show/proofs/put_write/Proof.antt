@@ -1,51 +1,26 @@
 -- `show::put_write` meets its contract: the lane, then the record.
-use native.Mathlib.Omega.{arith}
-use Rattle.digits.proofs.Stores.{and-then}
 use Rattle.sheet.specs.Print.{words}
+use Rattle.show.proofs.Shown.{two-then}
 use borrow.Author.Needs.{needs}
 use Rattle.show.proofs.put_write.Statement.{statement}
 use Rattle.show.proofs.put_write.Tie as tie
 
-slice-aggregate-word : tie.Need-slice-aggregate-word
-slice-aggregate-word c = search needs
+slice-aggregate-named : tie.Need-slice-aggregate-named
+slice-aggregate-named c = search needs
 
-word-requires : tie.Need-word-requires
-word-requires c κs =
-    let s = c .before .before .before in
-    omega (arith, s .pre)
-
-number-requires : tie.Need-number-requires
-number-requires c κs =
-    let at1 = c .before .before .before in
-    let s = at1 .before .before .before .before in
-    omega (arith, s .pre, at1 .word .ensures .1)
+named-requires : tie.Need-named-requires
+named-requires c κs = search needs
 
 recorded-requires : tie.Need-recorded-requires
-recorded-requires c κs =
-    let at2 = c .before .before .before in
-    let at1 = at2 .before .before .before .before in
-    let s = at1 .before .before .before .before in
-    omega (arith, s .pre, at1 .word .ensures .1, at2 .number .ensures .1)
+recorded-requires c κs = search needs
 
 same-length : tie.Need-same-length
 same-length c = search needs
 
 returns : tie.Need-returns
 unfolding words
-returns c =
-    let at3 = c .before .before in
-    let at2 = at3 .before .before .before .before in
-    let at1 = at2 .before .before .before .before in
-    let s = at1 .before .before .before .before in
-    (and-then (at1 .word .ensures .0) (and-then (at2 .number .ensures .0) (at3 .recorded .ensures .0)), omega (arith, s .pre, at1 .word .ensures .1, at2 .number .ensures .1, at3 .recorded .ensures .1))
+returns c = search (two-then, needs)
 
 pub put-write-spec : {M : Type 1} → statement M
 put-write-spec =
-    tie.close
-    (tie.spec
-    slice-aggregate-word
-    word-requires
-    number-requires
-    recorded-requires
-    same-length
-    returns)
+    tie.close (tie.spec slice-aggregate-named named-requires recorded-requires same-length returns)
