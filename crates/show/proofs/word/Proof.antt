@@ -1,14 +1,11 @@
 -- `show::word` meets its contract.
-use native.Mathlib.Omega.{arith}
 use borrow.Author.Needs.{needs}
 use Rattle.words.proofs.Words.{past}
 use Rattle.show.proofs.word.Statement.{statement}
 use Rattle.show.proofs.word.Tie as tie
 
 put-word-requires : tie.Need-put-word-requires
-put-word-requires c κs =
-    let s = c .before .before .before in
-    omega (arith, s .pre)
+put-word-requires c κs = search needs
 
 same-length : tie.Need-same-length
 same-length c = search needs
