@@ -2,4 +2,3 @@
 pub mod Steps
 pub mod Laws
 pub mod Exits
-pub mod Shown

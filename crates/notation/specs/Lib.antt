@@ -1,3 +1,2 @@
--- The papers' notation for sheets: read, and shown.
+-- The papers' notation for sheets.
 pub mod Notation
-pub mod Show

@@ -1,9 +1,4 @@
 // The notation of the papers, read: hexadecimal digits in pairs, free characters between them, and comments from # to the line's end.
-mod show;
-
-pub use show::show_event;
-pub use show::show_parse;
-pub use show::show_refusal;
 ghost use Prim.Native.Nat.{_+_, _≤_, _<_};
 ghost use mathlib.Core.Path.{_≡_};
 ghost use lib.ListN.{length};

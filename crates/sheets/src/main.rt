@@ -57,7 +57,7 @@ fn write_bytes(text: &[u8]) {
         return;
     }
     let mut line = line_buffer();
-    let end = notation::show_parse(&mut line, parsed);
+    let end = show::show_parse(&mut line, parsed);
     write_first(libc::STDERR_FILENO, &line, end);
 }
 
@@ -71,14 +71,14 @@ fn read_notation() {
 // The line of an event; false where it could not be written.
 fn write_event(count: u64, event: Event) -> bool {
     let mut line = line_buffer();
-    let end = notation::show_event(&mut line, count, event);
+    let end = show::show_event(&mut line, count, event);
     write_first(libc::STDOUT_FILENO, &line, end)
 }
 
 // The line at bytes that are no event.
 fn write_refusal(count: u64, byte: u64, refusal: u8) {
     let mut line = line_buffer();
-    let end = notation::show_refusal(&mut line, count, byte, refusal);
+    let end = show::show_refusal(&mut line, count, byte, refusal);
     write_first(libc::STDOUT_FILENO, &line, end);
 }
 

@@ -1,0 +1,3 @@
+-- The laws of sheets in words.
+pub mod Shown
+pub mod Groups

@@ -1,0 +1,2 @@
+-- Sheets in words.
+pub mod Show
