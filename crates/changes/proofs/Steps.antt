@@ -1,13 +1,13 @@
 -- How a step of document 01 is a change: the refusals, the tests of 4 and 8, and what every change of a lane's call keeps.
 use Prim.Native.Nat.{ℕ, zero, suc, _≤_, _<_}
-use mathlib.Core.Path.{_≡_, refl, sym, _∙_, subst}
+use mathlib.Core.Path.{_≡_, refl, _∙_, subst}
 use mathlib.Core.Bool.{Bool, true, false, cond}
 use mathlib.Core.List.{List, [], _∷_}
 use native.Mathlib.Omega.{arith}
 use lib.Dec.{eqb, leb}
 use lib.ListN.{getD, length, set}
 use lib.Seq.{set-getD}
-use borrow.Author.Tests.{eqb-false, leb-false, lt-ltb}
+use borrow.Author.Tests.{leb-false, lt-ltb}
 use Rattle.lists.specs.Lists.{any}
 use Rattle.lists.proofs.Tests.{at-test, by-test}
 use Rattle.line.specs.declared.Lane.{Lane}

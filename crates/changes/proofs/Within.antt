@@ -6,13 +6,12 @@ use native.Mathlib.Omega.{arith}
 use native.Mathlib.Decide.{decLt}
 use lib.Dec.{eqb, leb}
 use borrow.Author.Tests.{eq-eqb, eqb-true, leb-true}
-use Rattle.lists.specs.Lists.{every}
 use Rattle.lists.proofs.Counts.{all-getD}
-use Rattle.lists.proofs.Tests.{and-left, and-right, every-nth, implies-from}
+use Rattle.lists.proofs.Tests.{and-left, and-right, implies-from}
 use Rattle.line.specs.declared.Phase.{Phase}
 use Rattle.line.specs.declared.Line.{Line}
-use Rattle.line.specs.Line.{Shaped, idleLane, isWriting, leftIn, mostPointer, on, phaseAt, placeIn}
-use Rattle.line.specs.Sound.{numbersOk, regionOk, sound, unopenedNumbers, valueOk}
+use Rattle.line.specs.Line.{Shaped, idleLane, isWriting, leftIn, on, phaseAt, placeIn}
+use Rattle.line.specs.Sound.{regionOk, sound, unopenedNumbers, valueOk}
 use Rattle.line.proofs.Facts.{Good, good-of, when-open}
 use Rattle.line.proofs.Phases.{writing-is}
 use Rattle.steps.proofs.Keeps.{writer-fits}

@@ -8,8 +8,8 @@ use Rattle.event.specs.Event.{fieldsIn}
 use Rattle.event.specs.ReadWrite.{readAt}
 use Rattle.steps.specs.Effects.{started}
 use Rattle.steps.specs.Step.{stepBy}
-use Rattle.sheet.specs.Run.{run, runOn}
-use Rattle.sheet.specs.Print.{answerLines, answerWords, decimalIn, hexIn, linebook, words}
+use Rattle.sheet_run.specs.Run.{run, runOn}
+use Rattle.sheet_run.specs.Print.{answerLines, answerWords, decimalIn, hexIn, linebook, words}
 use Rattle.claims.specs.ExampleSheet.{examplePrint, exampleSheet}
 
 pub example-sheet : linebook exampleSheet ≡ examplePrint

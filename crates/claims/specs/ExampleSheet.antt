@@ -1,7 +1,7 @@
 -- Document 01, "One sheet, whole": the example sheet and what it prints.
 use Prim.Native.Nat.{ℕ}
 use mathlib.Core.List.{List, [], _∷_, _++_}
-use Rattle.sheet.specs.Text.{ascii}
+use Rattle.sheet_run.specs.Text.{ascii}
 
 abbrev pub someRecord : List ℕ
 someRecord = 1 ∷ 2 ∷ 3 ∷ 4 ∷ 5 ∷ 6 ∷ 7 ∷ 8 ∷ []

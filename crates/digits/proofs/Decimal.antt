@@ -8,7 +8,7 @@ use lib.Dec.{ltb}
 use lib.ListN.{length, length-append}
 use borrow.Author.Tests.{le-ltb, lt-ltb}
 use Rattle.lists.proofs.Tests.{at-test}
-use Rattle.sheet.specs.Print.{decimal, decimalIn}
+use Rattle.sheet_run.specs.Print.{decimal, decimalIn}
 
 -- a number of k + 2 digits has k + 1 before the last
 tenth : (k n : ℕ) → n < 10 ^ suc (suc k) → n / 10 < 10 ^ suc k

@@ -5,7 +5,7 @@ use mathlib.Core.List.{_∷_}
 use native.Mathlib.Omega.{arith}
 use native.Mathlib.Nat.{div-lt-iff-lt-mul, mod-lt, pow-le-pow-right, pow-suc}
 use lib.ListN.{length}
-use Rattle.sheet.specs.Print.{hexDigit, hexIn}
+use Rattle.sheet_run.specs.Print.{hexDigit, hexIn}
 
 pub hex-length : (width n : ℕ) → length (hexIn width n) ≡ width
 unfolding hexIn

@@ -2,7 +2,7 @@
 ghost use mathlib.Core.Path.{_≡_};
 ghost use Prim.Native.Nat.{_+_, _≤_, _<_};
 ghost use lib.ListN.{length};
-ghost use Rattle.sheet.specs.Print.{decimal, hexDigit, hexIn};
+ghost use Rattle.sheet_run.specs.Print.{decimal, hexDigit, hexIn};
 ghost use Rattle.digits.specs.Stored.{Stored};
 
 // A number in decimal, without leading zeros, from an index on; the index after it.

@@ -37,8 +37,8 @@ use Rattle.steps.proofs.Lowest.{Decided, accepted, decided, refused}
 use Rattle.steps.proofs.Edges.{free-wakes, set-down, take-region}
 use Rattle.steps.proofs.Release.{raised-up}
 use Rattle.steps.proofs.Chains.{atLane, enter-chain, free-chain, look-chain, open-chain, put-chain, read-chain, receive-chain, take-chain, want-chain, write-chain}
-use Rattle.sheet.specs.Run.{run, runOn}
-use Rattle.sheet.specs.Print.{answerLines, answerWords, decimalIn, linebook, words}
+use Rattle.sheet_run.specs.Run.{run, runOn}
+use Rattle.sheet_run.specs.Print.{answerLines, answerWords, decimalIn, linebook, words}
 use Rattle.edges.specs.Edges.{Alone, Entered, Holder, OtherEdges, Release, StarredEdges, Waits, answerTo, enter0, enter1, enter2, isSound}
 
 -- ---- phases and answers

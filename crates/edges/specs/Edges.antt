@@ -22,8 +22,8 @@ use Rattle.steps.specs.Effects.{purposeOf, writing}
 use Rattle.steps.specs.Refusals.{field, laneOf, namesLane}
 use Rattle.steps.specs.Step.{afterCalls, callBytes, callEvent, calls}
 use Rattle.steps.specs.declared.Answer.{Answer}
-use Rattle.sheet.specs.Print.{linebook}
-use Rattle.sheet.specs.Text.{ascii}
+use Rattle.sheet_run.specs.Print.{linebook}
+use Rattle.sheet_run.specs.Text.{ascii}
 
 -- ---- answers, and the states that lists of events lead to
 abbrev pub answerTo : State → Event → Answer

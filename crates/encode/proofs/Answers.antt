@@ -1,8 +1,8 @@
 -- What writing leaves and answers: the event's bytes at the start, or a refusal.
-use Prim.Native.Nat.{ℕ, suc, _+_, _≤_, _<_}
+use Prim.Native.Nat.{ℕ, _+_, _≤_, _<_}
 use mathlib.Core.Path.{_≡_, refl, sym, _∙_, ap}
 use mathlib.Core.Bool.{Bool, true, false}
-use mathlib.Core.List.{List, [], _∷_, _++_}
+use mathlib.Core.List.{List, _∷_, _++_}
 use native.Mathlib.Nat.{div-one, zero-add}
 use native.Mathlib.Omega.{arith}
 use lib.ListN.{drop, length}

@@ -1,6 +1,6 @@
 -- Fields read one after the other: what was got, or that one was cut short.
-use Prim.Native.Nat.{ℕ, zero, suc, _+_, _-_, _≤_, _<_}
-use mathlib.Core.Path.{_≡_, refl, sym, _∙_, ap}
+use Prim.Native.Nat.{ℕ, _+_, _-_, _≤_, _<_}
+use mathlib.Core.Path.{_≡_, refl, _∙_, ap}
 use mathlib.Core.Bool.{Bool, true, false, cond}
 use mathlib.Core.List.{List, [], _∷_, _++_}
 use native.Mathlib.Omega.{arith}
@@ -10,7 +10,7 @@ use lib.Seq.{drop-drop}
 use borrow.Author.Tests.{le-leb, leb-false, leb-true, lt-leb}
 use Rattle.event.specs.BigEndian.{numberOf}
 use Rattle.event.specs.Event.{fieldsIn}
-use Rattle.fields.specs.Fields.{Fields, fieldsAt, short, total, values}
+use Rattle.fields.specs.Fields.{fieldsAt, short, total, values}
 
 -- the fields of these lengths at an index are these numbers, and the sheet has them up to the end
 pub record Got (lengths vs sheet : List ℕ) (at end : ℕ) : Type 0 where

@@ -1,7 +1,7 @@
 -- The steps of an entry from the values that the function computes.
 use Prim.Native.Nat.{ℕ, _+_, _≤_, _<_}
-use mathlib.Core.Path.{_≡_, refl, sym, ap, _∙_}
-use mathlib.Core.Bool.{Bool, true, false, cond}
+use mathlib.Core.Path.{_≡_, refl, _∙_}
+use mathlib.Core.Bool.{true, false}
 use mathlib.Core.List.{List}
 use native.Mathlib.Omega.{arith}
 use lib.ListN.{length}
@@ -13,7 +13,7 @@ use Rattle.view.proofs.Laws.{fits-low}
 use Rattle.line.specs.declared.Line.{Line}
 use Rattle.line.specs.Line.{Shaped, isGathered, isIdle, isIdleOrGathered, mostPointer, on, phaseAt}
 use Rattle.line.specs.Sound.{gatheredTotal, sound}
-use Rattle.line.proofs.Facts.{Good, good-of, when-open}
+use Rattle.line.proofs.Facts.{good-of, when-open}
 use Rattle.waitlist.specs.NextLane.{nextLane}
 use Rattle.event.specs.declared.Event.{Event}
 use Rattle.steps.specs.Effects.{entered}

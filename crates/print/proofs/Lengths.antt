@@ -7,7 +7,7 @@ use lib.ListN.{length}
 use mir.Val.{Val}
 use denote.Laws.{Is}
 use denote.Enum.Declared.{row}
-use denote.Enum.Laws.{owed, val}
+use denote.Enum.Laws.{owed}
 use Rattle.view.specs.declared.Place.{Place}
 use Rattle.waitlist.specs.declared.Wakes.{Wakes}
 use Rattle.waitlist.proofs.Wakes as wakes
@@ -15,8 +15,8 @@ use Rattle.waitlist.proofs.Wakes.Laws as wakes-laws
 use Rattle.steps.specs.declared.Answer.{Answer}
 use Rattle.steps.proofs.Answer as answer
 use Rattle.steps.proofs.Answer.Laws as answer-laws
-use Rattle.sheet.specs.Print.{answerLine, answerWords, decimal, decimalIn, endLineOf, hexIn, wakesWords, words}
-use Rattle.sheet.specs.Text.{ascii}
+use Rattle.sheet_run.specs.Print.{answerLine, answerWords, decimal, decimalIn, endLineOf, hexIn, wakesWords, words}
+use Rattle.sheet_run.specs.Text.{ascii}
 use Rattle.digits.proofs.Decimal.{few-digits}
 use Rattle.digits.proofs.Hex.{hex-length}
 use Rattle.print.specs.Printing.{mostLine}

@@ -16,7 +16,7 @@ use words::wide32;
 ghost use mathlib.Core.Path.{_≡_};
 ghost use Prim.Native.Nat.{_+_, _≤_};
 ghost use lib.ListN.{length};
-ghost use Rattle.sheet.specs.Print.{answerLine, answerWords, endLineOf, words};
+ghost use Rattle.sheet_run.specs.Print.{answerLine, answerWords, endLineOf, words};
 ghost use Rattle.digits.specs.Stored.{Stored};
 ghost use Rattle.print.specs.Printing.{mostLine, printedTo, printingOf};
 

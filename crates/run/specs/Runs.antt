@@ -7,8 +7,8 @@ use lib.Dec.{leb}
 use lib.ListN.{length}
 use lib.Seq.{sets}
 use Rattle.steps.specs.State.{State}
-use Rattle.sheet.specs.Print.{printed}
-use Rattle.sheet.specs.Run.{run}
+use Rattle.sheet_run.specs.Print.{printed}
+use Rattle.sheet_run.specs.Run.{run}
 use Rattle.print.specs.declared.Printed.{Printed}
 use Rattle.run_text.specs.RunText.{mostText}
 use Rattle.run.specs.declared.RunOutcome.{RunOutcome}

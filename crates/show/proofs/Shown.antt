@@ -7,8 +7,8 @@ use lib.ListN.{length}
 use Rattle.digits.proofs.Hex.{hex-length}
 use Rattle.digits.proofs.Stores.{and-then}
 use Rattle.digits.specs.Stored.{Stored}
-use Rattle.sheet.specs.Text.{ascii}
-use Rattle.sheet.specs.Print.{hexIn, words}
+use Rattle.sheet_run.specs.Text.{ascii}
+use Rattle.sheet_run.specs.Print.{hexIn, words}
 use Rattle.show.specs.Show.{StoredTwo}
 use Rattle.words.proofs.Words.{one-length}
 

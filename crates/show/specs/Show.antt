@@ -8,8 +8,8 @@ use Rattle.event.specs.BigEndian.{unsigned}
 use Rattle.event.specs.declared.Blocks.{Blocks}
 use Rattle.event.specs.declared.Event.{Event}
 use Rattle.digits.specs.Stored.{Stored}
-use Rattle.sheet.specs.Text.{ascii}
-use Rattle.sheet.specs.Print.{decimal, hexIn, words}
+use Rattle.sheet_run.specs.Text.{ascii}
+use Rattle.sheet_run.specs.Print.{decimal, hexIn, words}
 use Rattle.notation.specs.declared.Parsed.{Parsed}
 use Rattle.notation.specs.declared.Spot.{Spot}
 
@@ -81,6 +81,6 @@ spotLine s expected = words (ascii "line" ∷ (decimal (s .line) ++ ascii ",") �
 unfoldable pub parseLine : Parsed → List ℕ
 parseLine (Parsed.Length n) = []
 parseLine (Parsed.NoDigit s) = spotLine s (ascii "expected a hexadecimal digit")
-parseLine (Parsed.NoSecond s) = spotLine s (ascii "expected a second hexadecimal digit before the end")
+parseLine (Parsed.NoSecond s) = spotLine s (ascii "expected one hexadecimal digit more: the text has an odd number of them")
 parseLine Parsed.TooLong = words (ascii "the text is longer than 1048576 bytes" ∷ [])
 parseLine Parsed.TooShort = words (ascii "the bytes do not fit the buffer" ∷ [])

@@ -14,8 +14,8 @@ ghost use mathlib.Core.Path.{_≡_};
 ghost use mathlib.Core.List.{[], _∷_, _++_};
 ghost use lib.ListN.{length};
 ghost use Rattle.event.specs.Event.{fieldsOf};
-ghost use Rattle.sheet.specs.Text.{ascii};
-ghost use Rattle.sheet.specs.Print.{decimal, hexIn, words};
+ghost use Rattle.sheet_run.specs.Text.{ascii};
+ghost use Rattle.sheet_run.specs.Print.{decimal, hexIn, words};
 ghost use Rattle.digits.specs.Stored.{Stored};
 ghost use Rattle.show.specs.Show.{StoredTwo, blockText, blockWords, eventLine, eventWords, mostLine, mostWords, parseLine, reason, refusalLine, signedText, spotLine};
 
@@ -285,7 +285,7 @@ pub fn show_parse(out: &mut [u8], parsed: Parsed) -> usize
             put_spot(
                 out,
                 spot,
-                b"expected a second hexadecimal digit before the end",
+                b"expected one hexadecimal digit more: the text has an odd number of them",
             )
         }
         Parsed::TooLong => word(out, 0, b"the text is longer than 1048576 bytes", LINE_END),

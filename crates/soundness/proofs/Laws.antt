@@ -14,7 +14,6 @@ use Rattle.view.specs.declared.Block.{Block}
 use Rattle.view.specs.declared.View.{View}
 use Rattle.line.specs.Line.{flagFor, isIdle, on}
 use Rattle.line.specs.Sound.{flagsOk, pastOk}
-use Rattle.line.specs.declared.Lane.{Lane}
 use Rattle.line.specs.declared.Line.{Line}
 use Rattle.line.specs.declared.Phase.{Phase}
 use Rattle.lanes.specs.Rules.{isFlagged}

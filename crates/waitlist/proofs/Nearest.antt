@@ -1,17 +1,15 @@
 -- The next lane is the nearest flagged one: every other flagged lane is nearer to it than to the releaser.
 use Prim.Native.Nat.{ℕ, zero, suc, _+_, _-_, _≤_, _<_}
-use mathlib.Core.Path.{_≡_, refl, sym, ap, _∙_}
+use mathlib.Core.Path.{_≡_, refl}
 use mathlib.Core.Logic.{_≢_}
-use mathlib.Core.Bool.{Bool, true, false, cond}
+use mathlib.Core.Bool.{Bool, true, false}
 use mathlib.Core.List.{List}
 use native.Mathlib.Omega.{arith}
 use native.Mathlib.Decide.{ℕ-discrete, decLt}
-use lib.ListN.{getD}
-use lib.Dec.{leb}
 use borrow.Author.Tests.{le-leb, lt-leb}
-use Rattle.lists.proofs.Tests.{both, by-test, clash}
+use Rattle.lists.proofs.Tests.{both}
 use Rattle.waitlist.specs.Distance.{distance}
-use Rattle.waitlist.specs.NextLane.{firstRaised, nextLane, orElse, raised}
+use Rattle.waitlist.specs.NextLane.{firstRaised, nextLane, raised}
 use Rattle.waitlist.specs.declared.Wakes.{Wakes}
 
 -- ---- the search among `count` lanes from lane a

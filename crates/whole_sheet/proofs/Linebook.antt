@@ -1,17 +1,15 @@
 -- Where there is room, what is printed is `linebook` of the sheet.
-use Prim.Native.Nat.{ℕ, _+_, _*_, _≤_, _<_}
-use mathlib.Core.Path.{_≡_, refl}
-use mathlib.Core.Bool.{Bool, true, false, cond}
+use Prim.Native.Nat.{ℕ, _≤_}
+use mathlib.Core.Path.{_≡_}
+use mathlib.Core.Bool.{true, false}
 use mathlib.Core.List.{List}
 use native.Mathlib.Omega.{arith}
 use lib.Dec.{leb, ltb}
-use lib.ListN.{length, replicate}
+use lib.ListN.{length}
 use lib.Seq.{sets}
-use borrow.Author.Tests.{le-leb, le-ltb, lt-leb, lt-ltb, ltb-false, ltb-true}
+use borrow.Author.Tests.{le-leb, le-ltb, lt-leb, ltb-false, ltb-true}
 use Rattle.lists.proofs.Tests.{by-test}
-use Rattle.sheet.specs.Print.{freshState, linebook, mostSheet, printed}
-use Rattle.sheet.specs.Run.{run}
-use Rattle.sheet.specs.Text.{ascii}
+use Rattle.sheet_run.specs.Print.{freshState, linebook, mostSheet}
 use Rattle.print.specs.declared.Printed.{Printed}
 use Rattle.run_text.specs.RunText.{mostText}
 use Rattle.whole_sheet.specs.Whole.{sheetPrinted, textOf}

@@ -1,4 +1,4 @@
--- What `linebook` prints of a sheet, in a lent buffer: `linebook` of the crate `sheet`, where there is room for it.
+-- What `linebook` prints of a sheet, in a lent buffer: `linebook` of the crate `sheet_run`, where there is room for it.
 use Prim.Native.Nat.{ℕ}
 use mathlib.Core.Bool.{Bool, cond}
 use mathlib.Core.List.{List}
@@ -6,8 +6,8 @@ use lib.Dec.{ltb}
 use lib.ListN.{length}
 use lib.Seq.{sets}
 use Rattle.steps.specs.State.{fresh}
-use Rattle.sheet.specs.Print.{mostSheet}
-use Rattle.sheet.specs.Text.{ascii}
+use Rattle.sheet_run.specs.Print.{mostSheet}
+use Rattle.sheet_run.specs.Text.{ascii}
 use Rattle.print.specs.declared.Printed.{Printed}
 use Rattle.run.specs.Runs.{leftBy, printedBy, textIn}
 

@@ -6,8 +6,8 @@ use native.Mathlib.Omega.{arith}
 use lib.ListN.{length, length-append}
 use Rattle.waitlist.specs.declared.Wakes.{Wakes}
 use Rattle.digits.specs.Stored.{Stored}
-use Rattle.sheet.specs.Text.{ascii}
-use Rattle.sheet.specs.Print.{wakesWords, words}
+use Rattle.sheet_run.specs.Text.{ascii}
+use Rattle.sheet_run.specs.Print.{wakesWords, words}
 
 -- how long a line is, by its first word
 last-length : (w : List ℕ) → length (words (w ∷ [])) ≡ length w + 1

@@ -4,8 +4,8 @@ ghost use mathlib.Core.Path.{_≡_};
 ghost use mathlib.Core.List.{[], _∷_, _++_};
 ghost use Prim.Native.Nat.{_+_, _≤_, _<_};
 ghost use lib.ListN.{length};
-ghost use Rattle.sheet.specs.Text.{ascii};
-ghost use Rattle.sheet.specs.Print.{decimal, hexIn, wakesWords, words};
+ghost use Rattle.sheet_run.specs.Text.{ascii};
+ghost use Rattle.sheet_run.specs.Print.{decimal, hexIn, wakesWords, words};
 ghost use Rattle.digits.specs.Stored.{Stored};
 
 // What stands between two words, and after the last.

@@ -2,7 +2,6 @@
 use Prim.Native.Nat.{_<_}
 use borrow.Author.Tests.{ltb-true}
 use Rattle.line.specs.Line.{mostLanes}
-use Rattle.changes.specs.Change.{wakesIn}
 use borrow.Author.Needs.{needs}
 use Rattle.changes.proofs.apply.Statement.{statement}
 use Rattle.changes.proofs.apply.Tie as tie

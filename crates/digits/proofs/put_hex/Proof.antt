@@ -6,7 +6,7 @@ use native.Mathlib.Omega.{arith}
 use lib.ListN.{length, length-set}
 use lib.Seq.{sets}
 use Rattle.lists.proofs.Sets.{sets-more}
-use Rattle.sheet.specs.Print.{hexIn}
+use Rattle.sheet_run.specs.Print.{hexIn}
 use Rattle.digits.proofs.Hex.{digit-small, hex-length, hex-more, rest-small, unit-next, unit-some}
 use borrow.Author.Needs.{needs}
 use Rattle.digits.proofs.put_hex.Statement.{statement}

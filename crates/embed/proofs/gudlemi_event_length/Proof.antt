@@ -1,7 +1,6 @@
 -- `gudlemi_event_length` meets its contract: an event ends past its start.
-use mathlib.Core.Path.{_≡_, sym, ap, _∙_}
+use mathlib.Core.Path.{sym, ap, _∙_}
 use native.Mathlib.Omega.{arith}
-use Rattle.event.specs.declared.Reading.{Reading}
 use Rattle.event.proofs.Lengths.{reads}
 use Rattle.embed.specs.Embedded.{lengthRead}
 use borrow.Author.Needs.{needs}

@@ -1,5 +1,5 @@
 -- `gudlemi_event_refusal` meets its contract.
-use mathlib.Core.Path.{_≡_, sym, ap, _∙_}
+use mathlib.Core.Path.{sym, ap, _∙_}
 use Rattle.embed.specs.Embedded.{refusalRead}
 use borrow.Author.Needs.{needs}
 use Rattle.embed.proofs.gudlemi_event_refusal.Statement.{statement}

@@ -1,5 +1,5 @@
 -- `gudlemi_run` meets its contract: it is the run from an unopened line.
-use mathlib.Core.Path.{_≡_, sym, ap, _∙_}
+use mathlib.Core.Path.{sym, ap, _∙_}
 use Rattle.embed.specs.Embedded.{lengthOf}
 use Rattle.whole_sheet.proofs.Fresh.{from-unopened}
 use borrow.Author.Needs.{needs}

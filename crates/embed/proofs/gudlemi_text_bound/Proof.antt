@@ -1,6 +1,4 @@
 -- `gudlemi_text_bound` meets its contract.
-use Prim.Native.Nat.{_+_, _*_}
-use mathlib.Core.Path.{_≡_}
 use native.Mathlib.Omega.{arith}
 use borrow.Author.Tests.{le-ltb, lt-ltb}
 use borrow.Author.Needs.{needs}

@@ -1,5 +1,5 @@
 -- `fields::number16` meets its contract: two bytes, the first times 256.
-use Prim.Native.Nat.{_+_, _<_}
+use Prim.Native.Nat.{_+_}
 use native.Mathlib.Omega.{arith}
 use Rattle.fields.proofs.Numbers.{number-of-one, number-split}
 use borrow.Author.Needs.{needs}

@@ -1,5 +1,4 @@
 -- `fields::signed_of` meets its contract.
-use mathlib.Core.Path.{_∙_}
 use mir.Facts.{toZ-ofZ}
 use Rattle.fields.proofs.Signed.{high-half, low-half, signed-fits}
 use borrow.Author.Needs.{needs}

@@ -3,7 +3,6 @@ use Prim.Native.Nat.{ℕ, _≤_}
 use mathlib.Core.Path.{_≡_}
 use mathlib.Core.Bool.{true}
 use native.Mathlib.Omega.{arith}
-use lib.ListN.{length}
 use Rattle.print.specs.declared.Printed.{Printed}
 use Rattle.run.specs.Runs.{textFits}
 use borrow.Author.Tests.{leb-true}

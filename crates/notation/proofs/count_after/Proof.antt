@@ -1,6 +1,6 @@
 -- `notation::count_after` meets its contract.
 use native.Mathlib.Omega.{arith}
-use mathlib.Core.Path.{refl, sym}
+use mathlib.Core.Path.{refl}
 use borrow.Author.Needs.{needs}
 use Rattle.notation.proofs.count_after.Statement.{statement}
 use Rattle.notation.proofs.count_after.Tie as tie

@@ -1,6 +1,5 @@
 -- `notation::is_free` meets its contract.
 use borrow.Author.Tests.{eq-eqb, ne-eqb}
-use borrow.Author.Needs.{needs}
 use Rattle.notation.proofs.is_free.Statement.{statement}
 use Rattle.notation.proofs.is_free.Tie as tie
 

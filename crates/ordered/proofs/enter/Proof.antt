@@ -1,5 +1,4 @@
 -- `enter` meets its contract: the tests in order, then the entry.
-use Prim.Native.Nat.{_<_}
 use mathlib.Core.Bool.{true}
 use mathlib.Core.Path.{_≡_, sym, ap, _∙_}
 use borrow.Author.Needs.{needs}

@@ -1,5 +1,4 @@
 -- `pack::put_u64` meets its contract: two halves.
-use native.Mathlib.Omega.{arith}
 use Rattle.pack.proofs.Puts.{put, two-halves}
 use borrow.Author.Needs.{needs}
 use Rattle.pack.proofs.put_u64.Statement.{statement}

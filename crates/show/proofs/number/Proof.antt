@@ -1,6 +1,6 @@
 -- `show::number` meets its contract.
 use native.Mathlib.Omega.{arith}
-use Rattle.sheet.specs.Print.{decimal}
+use Rattle.sheet_run.specs.Print.{decimal}
 use borrow.Author.Needs.{needs}
 use Rattle.words.proofs.Words.{past}
 use Rattle.digits.proofs.Decimal.{few-digits}

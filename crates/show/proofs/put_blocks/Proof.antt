@@ -1,5 +1,5 @@
 -- `show::put_blocks` meets its contract: two blocks at a time.
-use Rattle.sheet.specs.Print.{words}
+use Rattle.sheet_run.specs.Print.{words}
 use Rattle.show.proofs.Shown.{two-then}
 use borrow.Author.Needs.{needs}
 use Rattle.show.proofs.put_blocks.Statement.{statement}

@@ -1,5 +1,5 @@
 -- `show::put_fields` meets its contract: a named number, twice.
-use Rattle.sheet.specs.Print.{words}
+use Rattle.sheet_run.specs.Print.{words}
 use Rattle.show.proofs.Shown.{two-then}
 use borrow.Author.Needs.{needs}
 use Rattle.show.proofs.put_fields.Statement.{statement}

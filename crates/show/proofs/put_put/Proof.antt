@@ -1,5 +1,5 @@
 -- `show::put_put` meets its contract: the lane, the place, then the record.
-use Rattle.sheet.specs.Print.{words}
+use Rattle.sheet_run.specs.Print.{words}
 use Rattle.show.proofs.Shown.{two-then}
 use borrow.Author.Needs.{needs}
 use Rattle.show.proofs.put_put.Statement.{statement}

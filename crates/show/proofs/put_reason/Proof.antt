@@ -1,6 +1,6 @@
 -- `show::put_reason` meets its contract: one word or the other.
 use borrow.Author.Tests.{eq-eqb, ne-eqb}
-use Rattle.sheet.specs.Print.{words}
+use Rattle.sheet_run.specs.Print.{words}
 use borrow.Author.Needs.{needs}
 use Rattle.show.proofs.put_reason.Statement.{statement}
 use Rattle.show.proofs.put_reason.Tie as tie

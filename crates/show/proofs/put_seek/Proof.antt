@@ -1,6 +1,6 @@
 -- `show::put_seek` meets its contract: the whence, then the offset.
 use Rattle.digits.proofs.Stores.{and-then}
-use Rattle.sheet.specs.Print.{words}
+use Rattle.sheet_run.specs.Print.{words}
 use Rattle.show.proofs.Shown.{two-then}
 use borrow.Author.Needs.{needs}
 use Rattle.show.proofs.put_seek.Statement.{statement}

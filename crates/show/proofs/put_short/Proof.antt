@@ -1,5 +1,5 @@
 -- `show::put_short` meets its contract: an arm for each kind.
-use Rattle.sheet.specs.Print.{words}
+use Rattle.sheet_run.specs.Print.{words}
 use Rattle.show.specs.Show.{eventWords}
 use Rattle.show.proofs.Groups.{unlisted}
 use borrow.Author.Needs.{needs}

@@ -1,6 +1,6 @@
 -- `show::put_spot` meets its contract: the line, the column, then what was expected.
 use Rattle.digits.proofs.Stores.{and-then}
-use Rattle.sheet.specs.Print.{words}
+use Rattle.sheet_run.specs.Print.{words}
 use native.Mathlib.Omega.{arith}
 use borrow.Author.Needs.{needs}
 use Rattle.show.proofs.put_spot.Statement.{statement}

@@ -1,5 +1,5 @@
 -- `show::put_view` meets its contract: three named numbers, then the blocks.
-use Rattle.sheet.specs.Print.{words}
+use Rattle.sheet_run.specs.Print.{words}
 use Rattle.show.proofs.Shown.{two-then}
 use borrow.Author.Needs.{needs}
 use Rattle.show.proofs.put_view.Statement.{statement}

@@ -1,5 +1,5 @@
 -- `show::put_write` meets its contract: the lane, then the record.
-use Rattle.sheet.specs.Print.{words}
+use Rattle.sheet_run.specs.Print.{words}
 use Rattle.show.proofs.Shown.{two-then}
 use borrow.Author.Needs.{needs}
 use Rattle.show.proofs.put_write.Statement.{statement}

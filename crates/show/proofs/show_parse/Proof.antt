@@ -1,6 +1,6 @@
 -- `show::show_parse` meets its contract: an arm for each answer.
 use mathlib.Core.Path.{refl}
-use Rattle.sheet.specs.Print.{words}
+use Rattle.sheet_run.specs.Print.{words}
 use Rattle.show.specs.Show.{parseLine}
 use borrow.Author.Needs.{needs}
 use Rattle.show.proofs.show_parse.Statement.{statement}

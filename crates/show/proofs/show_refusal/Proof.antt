@@ -1,6 +1,6 @@
 -- `show::show_refusal` meets its contract: the number, the byte, then the reason.
 use Rattle.digits.proofs.Stores.{and-then}
-use Rattle.sheet.specs.Print.{words}
+use Rattle.sheet_run.specs.Print.{words}
 use borrow.Author.Needs.{needs}
 use Rattle.show.proofs.show_refusal.Statement.{statement}
 use Rattle.show.proofs.show_refusal.Tie as tie

@@ -1,5 +1,5 @@
 -- `print_too_long` meets its contract.
-use mathlib.Core.Path.{_≡_, ap}
+use mathlib.Core.Path.{ap}
 use borrow.Author.Tests.{le-ltb, lt-ltb}
 use Rattle.print.specs.declared.Printed.{Printed}
 use borrow.Author.Needs.{needs}

@@ -1,6 +1,6 @@
 -- `words::put_freed` meets its contract: the word, then the wake.
 use native.Mathlib.Omega.{arith}
-use Rattle.sheet.specs.Text.{ascii}
+use Rattle.sheet_run.specs.Text.{ascii}
 use Rattle.digits.proofs.Stores.{and-then}
 use Rattle.words.proofs.Words.{before-wakes, past, wakes-length}
 use borrow.Author.Needs.{needs}

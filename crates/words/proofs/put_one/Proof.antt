@@ -1,6 +1,6 @@
 -- `words::put_one` meets its contract: the word, then the number.
 use native.Mathlib.Omega.{arith}
-use Rattle.sheet.specs.Print.{decimal, words}
+use Rattle.sheet_run.specs.Print.{decimal, words}
 use Rattle.digits.proofs.Stores.{and-then}
 use Rattle.words.proofs.Words.{one-length, past}
 use borrow.Author.Needs.{needs}

@@ -1,8 +1,8 @@
 -- `words::put_record` meets its contract: the word, the digits, the line end.
 use native.Mathlib.Omega.{arith}
 use lib.ListN.{length-set}
-use Rattle.sheet.specs.Print.{hexIn, words}
-use Rattle.sheet.specs.Text.{ascii}
+use Rattle.sheet_run.specs.Print.{hexIn, words}
+use Rattle.sheet_run.specs.Text.{ascii}
 use Rattle.digits.proofs.Hex.{hex-length}
 use Rattle.digits.proofs.Stores.{and-then, one-byte}
 use Rattle.words.proofs.Words.{one-length, past}

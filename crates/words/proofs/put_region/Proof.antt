@@ -1,7 +1,7 @@
 -- `words::put_region` meets its contract: the word, the numbers, the wake.
 use native.Mathlib.Omega.{arith}
-use Rattle.sheet.specs.Print.{decimal, words}
-use Rattle.sheet.specs.Text.{ascii}
+use Rattle.sheet_run.specs.Print.{decimal, words}
+use Rattle.sheet_run.specs.Text.{ascii}
 use Rattle.digits.proofs.Stores.{and-then}
 use Rattle.words.proofs.Words.{before-wakes, past, region-length}
 use borrow.Author.Needs.{needs}

@@ -1,6 +1,6 @@
 -- `words::put_wakes` meets its contract: an arm for each case.
 use native.Mathlib.Omega.{arith}
-use Rattle.sheet.specs.Print.{words}
+use Rattle.sheet_run.specs.Print.{words}
 use borrow.Author.Needs.{needs}
 use Rattle.words.proofs.put_wakes.Statement.{statement}
 use Rattle.words.proofs.put_wakes.Tie as tie

@@ -2,8 +2,8 @@
 use mathlib.Core.Path.{sym}
 use lib.Seq.{length-take-le}
 use borrow.Author.Needs.{needs}
-use Rattle.sheets.proofs.write_first.Statement.{statement}
-use Rattle.sheets.proofs.write_first.Tie as tie
+use Rattle.sheet.proofs.write_first.Statement.{statement}
+use Rattle.sheet.proofs.write_first.Tie as tie
 
 slice-aggregate-write-all : tie.Need-slice-aggregate-write-all
 slice-aggregate-write-all c = sym (length-take-le _ _ (c .before .before .pre))

@@ -5,8 +5,8 @@ use native.Mathlib.Omega.{arith}
 use lib.ListN.{length}
 use borrow.Author.Needs.{needs}
 use Rattle.event.proofs.Lengths.{reads}
-use Rattle.sheets.proofs.write_lines.Statement.{statement}
-use Rattle.sheets.proofs.write_lines.Tie as tie
+use Rattle.sheet.proofs.write_lines.Statement.{statement}
+use Rattle.sheet.proofs.write_lines.Tie as tie
 
 abbrev Inv-loop : tie.InvT-loop
 Inv-loop sheet at₀ count₀ at count = (count ≤ at) × (at ≤ length sheet)

@@ -3,8 +3,8 @@ use mathlib.Core.Path.{sym, _∙_}
 use native.Mathlib.Omega.{arith}
 use Rattle.notation.proofs.Exits.{parsed-fits}
 use borrow.Author.Needs.{needs}
-use Rattle.sheets.proofs.write_bytes.Statement.{statement}
-use Rattle.sheets.proofs.write_bytes.Tie as tie
+use Rattle.sheet.proofs.write_bytes.Statement.{statement}
+use Rattle.sheet.proofs.write_bytes.Tie as tie
 
 bytes-buffer-requires : tie.Need-bytes-buffer-requires
 bytes-buffer-requires c κs = search needs

@@ -8,8 +8,8 @@ use Rattle.view.specs.declared.Place.{Place}
 use Rattle.waitlist.specs.declared.Wakes.{Wakes}
 use Rattle.steps.specs.State.{State, fresh}
 use Rattle.steps.specs.declared.Answer.{Answer}
-use Rattle.sheet.specs.Run.{Ran, run}
-use Rattle.sheet.specs.Text.{ascii}
+use Rattle.sheet_run.specs.Run.{Ran, run}
+use Rattle.sheet_run.specs.Text.{ascii}
 
 -- ---- numbers
 -- a number in decimal; `more` bounds the digits before the last

@@ -150,6 +150,6 @@ fn main() {
     }
     io::write_all(
         libc::STDERR_FILENO,
-        b"use: sheets < NOTATION > SHEET, or sheets show < SHEET\n",
+        b"use: sheet < NOTATION > SHEET, or sheet show < SHEET\n",
     );
 }

@@ -23,7 +23,7 @@ use Rattle.steps.specs.Refusals.{reasons}
 use Rattle.steps.specs.State.{Result, State}
 use Rattle.steps.specs.Step.{callEvent, stepBy, unlessRefused}
 use Rattle.steps.specs.declared.Answer.{Answer}
-use Rattle.sheet.specs.Run.{answered, done, endsRun, runOn}
+use Rattle.sheet_run.specs.Run.{answered, done, endsRun, runOn}
 
 -- ---- an event that was read does not end the run of a sound line: only 1, 2 and 3 would
 late : (k : ℕ) (bs : List Bool) (x : State) (r : Result) → 4 ≤ k → endsRun (r .answer) ≡ false → endsRun (unlessRefused k bs x r .answer) ≡ false
