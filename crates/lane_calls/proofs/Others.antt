@@ -33,7 +33,8 @@ no-lane (Event.View displacement extent used blocks) h = refl
 no-lane (Event.Seek whence offset) h = refl
 no-lane Event.Unlisted h = refl
 
-a-lane : {X : Type 0} {i : ℕ} → Scope.Lane i ≡ Scope.Line → X
+-- a call of a lane is none on the whole line
+pub a-lane : {X : Type 0} {i : ℕ} → Scope.Lane i ≡ Scope.Line → X
 a-lane h = let z : _≡_ {A = ℕ} 0 1 = cc in absurd (omega arith)
 
 pub none-decided : (s : Seen) (v : View) (flags book : List ℕ) (e : Event) → scopeOf e ≡ Scope.Line → refused s 2 ≡ decidedAt s v flags book e

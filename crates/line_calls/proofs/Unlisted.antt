@@ -3,7 +3,6 @@ use Prim.Native.Nat.{ℕ}
 use mathlib.Core.Path.{_≡_, refl, _∙_}
 use mathlib.Core.Bool.{true}
 use mathlib.Core.List.{List, [], _∷_}
-use native.Mathlib.Omega.{arith}
 use lib.ListN.{length}
 use types.Run.{OneOf, miss}
 use denote.Enum.Declared.{tagOf}
@@ -14,6 +13,7 @@ use Rattle.event.specs.declared.Event.{Event}
 use Rattle.event.proofs.Event.{the-type}
 use Rattle.lane_calls.specs.Decided.{scopeOf}
 use Rattle.lane_calls.specs.declared.Scope.{Scope}
+use Rattle.lane_calls.proofs.Others.{a-lane}
 use Rattle.steps.specs.Meets.{Meets, stateOf}
 use Rattle.steps.specs.Step.{callEvent}
 use Rattle.steps.specs.declared.Outcome.{Outcome}
@@ -24,9 +24,6 @@ use Rattle.refusals.proofs.First.{meets-refused, when-sound}
 -- the tags of the arms before it are 0, 9, 10 and 11
 abbrev rest : List ℕ
 rest = 1 ∷ 2 ∷ 3 ∷ 4 ∷ 5 ∷ 6 ∷ 7 ∷ 8 ∷ 12 ∷ []
-
-a-lane : {X : Type 0} {i : ℕ} → Scope.Lane i ≡ Scope.Line → X
-a-lane h = let z : _≡_ {A = ℕ} 0 1 = cc in absurd (omega arith)
 
 pub unlisted : (e : Event) → OneOf rest (tagOf the-type e) → scopeOf e ≡ Scope.Line → e ≡ Event.Unlisted
 unlisted (Event.Open lanes capacity) t h = absurd (miss rest 0 tt t)
