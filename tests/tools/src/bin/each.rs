@@ -2,24 +2,11 @@
 //! A stream is a row of byte strings, each preceded by its length as 4 bytes big-endian. With `--pieces N` a sheet is handed over N bytes at a time, with a
 //! pause after each of the first eight.
 
-use std::io::{self, Read, Write};
+use oracle_lib::stream::{read_item, write_item};
+use std::io::{self, Write};
 use std::process::{Command, ExitCode, Stdio};
 use std::thread;
 use std::time::Duration;
-
-/// The next item of a stream, or none at its end.
-fn read_item(source: &mut impl Read) -> io::Result<Option<Vec<u8>>> {
-    let mut length = [0; 4];
-    let mut first = [0; 1];
-    if source.read(&mut first)? == 0 {
-        return Ok(None);
-    }
-    length[0] = first[0];
-    source.read_exact(&mut length[1..])?;
-    let mut item = vec![0; u32::from_be_bytes(length) as usize];
-    source.read_exact(&mut item)?;
-    Ok(Some(item))
-}
 
 /// What the program prints of a sheet, which it gets in pieces of this size. A program that stops reading early is no fault.
 fn printed(program: &str, sheet: Vec<u8>, piece: usize) -> io::Result<Vec<u8>> {
@@ -49,8 +36,7 @@ fn run(program: &str, piece: usize) -> io::Result<()> {
     let mut sink = io::BufWriter::new(io::stdout().lock());
     while let Some(sheet) = read_item(&mut source)? {
         let text = printed(program, sheet, piece)?;
-        sink.write_all(&(text.len() as u32).to_be_bytes())?;
-        sink.write_all(&text)?;
+        write_item(&mut sink, &text)?;
     }
     sink.flush()
 }
