@@ -1,12 +1,16 @@
 // The run of a sheet: its events one after the other on one line and one lent book, with the printed lines in a lent buffer.
-ghost use Prim.Native.Nat.{_≤_};
+ghost use Prim.Native.Nat.{_+_, _≤_};
 ghost use mathlib.Core.Bool.{true};
 ghost use mathlib.Core.Path.{_≡_};
 ghost use lib.ListN.{length};
+ghost use Rattle.lists.specs.Lists.{any};
+ghost use Rattle.line.specs.Line.{isGathered, lane, on};
 ghost use Rattle.line.specs.Sound.{sound};
+ghost use Rattle.steps.specs.Effects.{woken};
 ghost use Rattle.steps.specs.Meets.{stateOf};
-ghost use Rattle.run_text.specs.RunText.{mostText};
-ghost use Rattle.run.specs.Runs.{RunMeets, RunSound};
+ghost use Rattle.digits.specs.Stored.{Stored};
+ghost use Rattle.run_text.specs.RunText.{lastLines, mostText};
+ghost use Rattle.run.specs.Runs.{RunMeets, RunSound, ended, endsAt};
 use changes::Seen;
 use changes::entry_of;
 use changes::phases::wake_with;
@@ -24,6 +28,7 @@ use reader::event_at;
 use run_text::has_room;
 use run_text::put_last;
 use soundness::is_sound;
+use view::Place;
 use waitlist::Wakes;
 
 // What a run gives: the line as it leaves it, and the length of the text, or that the buffer lent for the text is too short.
@@ -32,14 +37,45 @@ pub struct RunOutcome {
     pub printed: Printed,
 }
 
+// Whether some lane of a line is gathered.
+fn some_gathered(line: Line) -> bool
+    ensures { λ r. ⌜ r ≡ any (on isGathered) (line .lane) ⌝ }
+{
+    let lanes = line.lane;
+    any_gathered(lanes)
+}
+
+// A waiting lane, woken with the pointer.
+fn wake_lane(waiting: Lane, pointer: Place) -> Lane
+    ensures { λ r. ⌜ r ≡ lane (woken pointer (waiting .phase)) ⌝ }
+{
+    let phase = waiting.phase;
+    Lane {
+        phase: wake_with(pointer, phase),
+    }
+}
+
+// The end of a run: the last lines stored, and the line as it is.
+fn end_run(line: Line, reading: Reading, out: &mut [u8], at: usize, number: u64) -> RunOutcome
+    requires { ⌜ at + 112 ≤ length (now out) ⌝ }
+    ensures is { λ r. ⌜ r ≡ ended at number reading line ⌝ }
+    ensures text { λ r. ⌜ Stored (lastLines number reading line) (now (out .entry)) at (now (out .exit)) (endsAt at number reading line) ⌝ }
+    ensures short { λ r. ⌜ endsAt at number reading line ≤ at + 112 ⌝ }
+{
+    let end = put_last(line, reading, out, at, number);
+    RunOutcome {
+        line,
+        printed: Printed::Length(end),
+    }
+}
+
 // The run on a sound line, which stays in one local; a change of a lane is stored by its index.
 fn run_sound(line: Line, book: &mut [u8], sheet: &[u8], out: &mut [u8]) -> RunOutcome
     requires { ⌜ (sound line (length (now book)) ≡ true) × (mostText (length (now sheet)) ≤ length (now out)) ⌝ }
     ensures { λ r. ⌜ RunSound (stateOf line (now (book .entry))) (now (sheet .entry)) (now (out .entry)) r (now (book .exit)) (now (out .exit)) ⌝ }
 {
     let mut next = line;
-    let lanes = next.lane;
-    let mut gathering = any_gathered(lanes);
+    let mut gathering = some_gathered(next);
     let mut at: usize = 0;
     let mut length: usize = 0;
     let mut number: u64 = 0;
@@ -47,23 +83,17 @@ fn run_sound(line: Line, book: &mut [u8], sheet: &[u8], out: &mut [u8]) -> RunOu
         let step = event_at(sheet, at);
         let reading = step.reading;
         let Reading::Event { event, next: _ } = reading else {
-            let end = put_last(next, reading, out, length, number);
-            return RunOutcome {
-                line: next,
-                printed: Printed::Length(end),
-            };
+            return end_run(next, reading, out, length, number);
         };
         at = step.at;
-        let scope = scope_of(event);
-        match scope {
+        match scope_of(event) {
             Scope::Line => {
                 let called = call_line(next, book, event);
                 let answer = called.answer;
                 length = put_answer(out, length, number, answer);
                 number += 1;
                 let after = called.line;
-                let lanes = after.lane;
-                gathering = any_gathered(lanes);
+                gathering = some_gathered(after);
                 next = after;
             }
             Scope::Lane(lane) => {
@@ -93,11 +123,8 @@ fn run_sound(line: Line, book: &mut [u8], sheet: &[u8], out: &mut [u8]) -> RunOu
                 let wakes = change.wakes;
                 if let Wakes::Lane(woken) = wakes {
                     let w = entry_of(woken);
-                    let waiting_lane = next.lane[w];
-                    let waiting = waiting_lane.phase;
-                    next.lane[w] = Lane {
-                        phase: wake_with(moved, waiting),
-                    };
+                    let waiting = next.lane[w];
+                    next.lane[w] = wake_lane(waiting, moved);
                 }
             }
         }
@@ -115,11 +142,7 @@ pub fn run(line: Line, book: &mut [u8], sheet: &[u8], out: &mut [u8]) -> RunOutc
         };
     }
     if !is_sound(line, book.len()) {
-        let end = put_last(line, Reading::Refused(1), out, 0, 0);
-        return RunOutcome {
-            line,
-            printed: Printed::Length(end),
-        };
+        return end_run(line, Reading::Refused(1), out, 0, 0);
     }
     run_sound(line, book, sheet, out)
 }

@@ -5,6 +5,7 @@ use native.Mathlib.Omega.{arith}
 use lib.ListN.{length}
 use borrow.Author.Needs.{needs}
 use Rattle.steps.specs.Meets.{stateOf}
+use Rattle.line.specs.declared.Lane.{Lane}
 use Rattle.line.proofs.Facts.{good-of}
 use Rattle.changes.specs.Change.{entryOf, seenOf}
 use Rattle.changes.specs.declared.Seen.{Seen}
@@ -32,8 +33,8 @@ abbrev μ-loop : tie.MeasureT-loop
 μ-loop book₀ sheet out₀ next₀ gathering₀ at₀ length₀ number₀ book out next gathering at len number = length sheet - at
 
 -- ---- the places on the way of a turn, and what is known there
-abbrev start-of : tie.After-any-gathered Inv-loop μ-loop → tie.Start Inv-loop μ-loop
-start-of c = c .before .before .before .before .before
+abbrev start-of : tie.After-some-gathered Inv-loop μ-loop → tie.Start Inv-loop μ-loop
+start-of c = c .before .before .before .before
 
 abbrev start : tie.At-loop Inv-loop μ-loop → tie.Start Inv-loop μ-loop
 start l = start-of (l .before)
@@ -45,13 +46,13 @@ abbrev event-of : tie.After-scope-of Inv-loop μ-loop → tie.After-event-at Inv
 event-of c = c .before .before .before .before
 
 -- the scope of the whole line's arm, and of the lane's
-abbrev line-scope : tie.After-any-gathered2 Inv-loop μ-loop → tie.After-scope-of Inv-loop μ-loop
-line-scope c = c .before .before .before .before .before .before .before .before .before .before .before .before .before
+abbrev line-scope : tie.After-some-gathered2 Inv-loop μ-loop → tie.After-scope-of Inv-loop μ-loop
+line-scope c = c .before .before .before .before .before .before .before .before .before .before .before .before
 
 abbrev decide-at : tie.After-enum-told2 Inv-loop μ-loop → tie.After-decide Inv-loop μ-loop
 decide-at c = c .before .before .before .before .before .before .before .before .before
 
-abbrev decide-at-woken : tie.After-wake-with Inv-loop μ-loop → tie.After-decide Inv-loop μ-loop
+abbrev decide-at-woken : tie.After-wake-lane Inv-loop μ-loop → tie.After-decide Inv-loop μ-loop
 decide-at-woken c = c .before .before .before .before .before .before .before .before .before .before .before .before .before
 
 abbrev scope-at : tie.After-decide Inv-loop μ-loop → tie.After-scope-of Inv-loop μ-loop
@@ -100,7 +101,7 @@ abbrev entry-loop : tie.After-entry-of Inv-loop μ-loop → tie.At-loop Inv-loop
 entry-loop e = loop-at (event-of (entry-scope e))
 
 abbrev lane-of : tie.After-entry-of Inv-loop μ-loop → ℕ
-lane-of e = e .before .before .scope .given .0 .0
+lane-of e = e .before .before .lane .given .0 .0
 
 abbrev seen-at : tie.After-entry-of Inv-loop μ-loop → Seen
 seen-at e = seenWith (entry-loop e .loop .next) (e .entry-of .result) (entry-loop e .loop .gathering)
@@ -110,14 +111,14 @@ sees e =
     sees-line (entry-loop e .loop .next) (e .entry-of .result) (entryOf (lane-of e)) (entry-loop e .loop .gathering) (e .entry-of .ensures .0) (entry-loop e .loop .inv .gathered)
 
 by-lane : (e : tie.After-entry-of Inv-loop μ-loop) → scopeOf (event (entry-scope e)) ≡ Scope.Lane (lane-of e)
-by-lane e = sym (entry-scope e .scope-of .ensures) ∙ e .before .before .scope .given .1
+by-lane e = sym (entry-scope e .scope-of .ensures) ∙ e .before .before .lane .given .1
 
-any-gathered-requires : tie.Need-any-gathered-requires Inv-loop μ-loop
-any-gathered-requires c κs = search needs
+some-gathered-requires : tie.Need-some-gathered-requires Inv-loop μ-loop
+some-gathered-requires c κs = search needs
 
 loop-holds : tie.Need-loop-holds Inv-loop μ-loop
 loop-holds c = let s = start-of c in
-    starts (s .args .sheet .now) (s .args .line) (s .args .book .now) (s .args .out .now) _ (good-of (s .args .line) (length (s .args .book .now)) (shape-of (s .args .line) (s .good .0)) (s .pre .0)) (c .any-gathered .ensures)
+    starts (s .args .sheet .now) (s .args .line) (s .args .book .now) (s .args .out .now) _ (good-of (s .args .line) (length (s .args .book .now)) (shape-of (s .args .line) (s .good .0)) (s .pre .0)) (c .some-gathered .ensures)
 
 event-at-requires : tie.Need-event-at-requires Inv-loop μ-loop
 event-at-requires c κs = search needs
@@ -125,8 +126,8 @@ event-at-requires c κs = search needs
 enum-known-reading : tie.Need-enum-known-reading Inv-loop μ-loop
 enum-known-reading c = search needs
 
-put-last-requires : tie.Need-put-last-requires Inv-loop μ-loop
-put-last-requires c κs = search needs
+end-run-requires : tie.Need-end-run-requires Inv-loop μ-loop
+end-run-requires c κs = search needs
 
 same-length : tie.Need-same-length Inv-loop μ-loop
 same-length c = search needs
@@ -140,8 +141,9 @@ returns c =
     let m = p .before .before in
     let ev = m .before in
     let l = ev .before in
-    ends _ _ _ _ _ _ _ _ _ _ (l .loop .inv) (ev .event-at .result .reading) _ _ (m .match .keys2) (reading-is ev) (p .put-last .ensures .0) (start l .pre .0)
-    (omega (arith, p .put-last .ensures .1, room l, l .loop .inv .out-length))
+    rw (p .end-run .ensures .0)
+    (ends _ _ _ _ _ _ _ _ _ _ (l .loop .inv) (ev .event-at .result .reading) _ _ (m .match .keys2) (reading-is ev) (p .end-run .ensures .1 .0) (start l .pre .0)
+    (omega (arith, p .end-run .ensures .1 .1, room l, l .loop .inv .out-length)))
 
 scope-of-requires : tie.Need-scope-of-requires Inv-loop μ-loop
 scope-of-requires c κs = search needs
@@ -164,8 +166,8 @@ add-number c =
     let l = loop-at (event-of (c .before .before .before .before .before .before .before .before .before .before)) in
     omega (arith, l .loop .inv .numbered)
 
-any-gathered-requires-2 : tie.Need-any-gathered-requires-2 Inv-loop μ-loop
-any-gathered-requires-2 c κs = search needs
+some-gathered-requires-2 : tie.Need-some-gathered-requires-2 Inv-loop μ-loop
+some-gathered-requires-2 c κs = search needs
 
 loop-less : tie.Need-loop-less Inv-loop μ-loop
 loop-less c =
@@ -175,13 +177,13 @@ loop-again : tie.Need-loop-again Inv-loop μ-loop
 loop-again c =
     let co = line-scope c in
     let l = loop-at (event-of co) in
-    let k = c .before .before .before .before .before .before .before .before .before in
-    let p = c .before .before .before .before .before in
+    let k = c .before .before .before .before .before .before .before .before in
+    let p = c .before .before .before .before in
     goes-on _ _ _ _ _ _ _ _ _ _ (l .loop .inv) (event co) (cursor co) (event-is co) (k .call-line .result .answer) (k .call-line .result .line) _ (met _ _ _ (k .call-line .ensures))
-    _ _ (p .put-answer .ensures .0) (p .put-answer .ensures .1) _ (c .any-gathered2 .ensures) (k .call-line .kept .1 .0) (p .put-answer .kept .0) _ (at-is co)
+    _ _ (p .put-answer .ensures .0) (p .put-answer .ensures .1) _ (c .some-gathered2 .ensures) (k .call-line .kept .1 .0) (p .put-answer .kept .0) _ (at-is co)
 
-enum-known-scope : tie.Need-enum-known-scope Inv-loop μ-loop
-enum-known-scope c = search needs
+enum-known-lane : tie.Need-enum-known-lane Inv-loop μ-loop
+enum-known-lane c = search needs
 
 entry-of-requires : tie.Need-entry-of-requires Inv-loop μ-loop
 entry-of-requires c κs = search needs
@@ -192,8 +194,8 @@ mul-own c = search needs
 element-copy-out-own : tie.Need-element-copy-out-own Inv-loop μ-loop
 element-copy-out-own c = search needs
 
-element-copy-out-t53 : tie.Need-element-copy-out-t53 Inv-loop μ-loop
-element-copy-out-t53 c = search needs
+element-copy-out-t49 : tie.Need-element-copy-out-t49 Inv-loop μ-loop
+element-copy-out-t49 c = search needs
 
 decide-requires : tie.Need-decide-requires Inv-loop μ-loop
 decide-requires c κs =
@@ -212,8 +214,8 @@ add-number-2 c =
 element-write-next : tie.Need-element-write-next Inv-loop μ-loop
 element-write-next c = search needs
 
-mul-t44 : tie.Need-mul-t44 Inv-loop μ-loop
-mul-t44 c = search needs
+mul-t40 : tie.Need-mul-t40 Inv-loop μ-loop
+mul-t40 c = search needs
 
 element-set-from-next : tie.Need-element-set-from-next Inv-loop μ-loop
 element-set-from-next c = search needs
@@ -224,17 +226,17 @@ enum-known-wakes c = search needs
 entry-of-requires-2 : tie.Need-entry-of-requires-2 Inv-loop μ-loop
 entry-of-requires-2 c κs = search needs
 
-mul-waiting-lane : tie.Need-mul-waiting-lane Inv-loop μ-loop
-mul-waiting-lane c = search needs
+mul-waiting : tie.Need-mul-waiting Inv-loop μ-loop
+mul-waiting c = search needs
 
-element-copy-out-waiting-lane : tie.Need-element-copy-out-waiting-lane Inv-loop μ-loop
-element-copy-out-waiting-lane c = search needs
+element-copy-out-waiting : tie.Need-element-copy-out-waiting Inv-loop μ-loop
+element-copy-out-waiting c = search needs
 
-wake-with-requires : tie.Need-wake-with-requires Inv-loop μ-loop
-wake-with-requires c κs = search needs
+wake-lane-requires : tie.Need-wake-lane-requires Inv-loop μ-loop
+wake-lane-requires c κs = search needs
 
-mul-t65 : tie.Need-mul-t65 Inv-loop μ-loop
-mul-t65 c = search needs
+mul-t61 : tie.Need-mul-t61 Inv-loop μ-loop
+mul-t61 c = search needs
 
 element-set-from-next-2 : tie.Need-element-set-from-next-2 Inv-loop μ-loop
 element-set-from-next-2 c = search needs
@@ -254,7 +256,7 @@ loop-again-2 c =
     let wake = c .before .before in
     let G = l .loop .inv in
     let done = woken-called (l .loop .next) (l .loop .book) (G .good .facts .base .few) (is-sound _ _ _ _ _ _ _ _ _ _ G) (event co) (lane-of e) (by-lane e)
-    (d .decide .result) _ (seen-at e) (sees e) (d .decide .ensures .0) (d .decide .ensures .1) (e .entry-of .result) (w .wakes .given .0 .0) (wake .entry-of2 .result) (c .wake-with .result) (e .entry-of .ensures .0) (w .wakes .given .1) (wake .entry-of2 .ensures .0) (c .wake-with .ensures) in
+    (d .decide .result) _ (seen-at e) (sees e) (d .decide .ensures .0) (d .decide .ensures .1) (e .entry-of .result) (w .wakes .given .0 .0) (wake .entry-of2 .result) (c .wake-lane .result .phase) (e .entry-of .ensures .0) (w .wakes .given .1) (wake .entry-of2 .ensures .0) (ap (λ (x : Lane). x .phase) (c .wake-lane .ensures)) in
     goes-on _ _ _ _ _ _ _ _ _ _ G (event co) (cursor co) (event-is co) (d .decide .result .answer) _ _ (done .called)
     _ _ (p .put-answer2 .ensures .0) (p .put-answer2 .ensures .1) _ (G .gathered ∙ sym (done .gathered)) (d .decide .kept .1 .1 .1 .1 .0) (p .put-answer2 .kept .0) _ (at-is co)
 
@@ -284,11 +286,11 @@ run-sound-spec =
     (tie.spec
     Inv-loop
     μ-loop
-    any-gathered-requires
+    some-gathered-requires
     loop-holds
     event-at-requires
     enum-known-reading
-    put-last-requires
+    end-run-requires
     same-length
     same-length-2
     returns
@@ -297,26 +299,26 @@ run-sound-spec =
     call-line-requires
     put-answer-requires
     add-number
-    any-gathered-requires-2
+    some-gathered-requires-2
     loop-less
     loop-again
-    enum-known-scope
+    enum-known-lane
     entry-of-requires
     mul-own
     element-copy-out-own
-    element-copy-out-t53
+    element-copy-out-t49
     decide-requires
     put-answer-requires-2
     add-number-2
     element-write-next
-    mul-t44
+    mul-t40
     element-set-from-next
     enum-known-wakes
     entry-of-requires-2
-    mul-waiting-lane
-    element-copy-out-waiting-lane
-    wake-with-requires
-    mul-t65
+    mul-waiting
+    element-copy-out-waiting
+    wake-lane-requires
+    mul-t61
     element-set-from-next-2
     loop-less-2
     loop-again-2
