@@ -1,7 +1,7 @@
 // The lines that the cases start from, made of bytes; numbers are big-endian.
-use fields::Field8;
-use fields::Field16;
-use fields::Field32;
+use decode_fields::Field8;
+use decode_fields::Field16;
+use decode_fields::Field32;
 use line::Lane;
 use line::Line;
 use line::Phase;
@@ -10,21 +10,21 @@ use view::Block;
 use view::Place;
 
 fn u8_at(bytes: &[u8], at: usize) -> u8 {
-    let Field8::Value(x, _) = fields::read_u8(bytes, at) else {
+    let Field8::Value(x, _) = decode_fields::read_u8(bytes, at) else {
         return 0;
     };
     x
 }
 
 fn u16_at(bytes: &[u8], at: usize) -> u16 {
-    let Field16::Value(x, _) = fields::read_u16(bytes, at) else {
+    let Field16::Value(x, _) = decode_fields::read_u16(bytes, at) else {
         return 0;
     };
     x
 }
 
 fn u32_at(bytes: &[u8], at: usize) -> u32 {
-    let Field32::Value(x, _) = fields::read_u32(bytes, at) else {
+    let Field32::Value(x, _) = decode_fields::read_u32(bytes, at) else {
         return 0;
     };
     x

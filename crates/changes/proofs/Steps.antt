@@ -25,12 +25,12 @@ use Rattle.steps.specs.Meets.{stateOf}
 use Rattle.steps.specs.State.{Result}
 use Rattle.steps.specs.Step.{refuse}
 use Rattle.steps.proofs.Chains as chains
-use Rattle.changes.specs.Change.{applied, atLane, changed, entryOf, kept, refused, seenOf, wakesIn}
+use Rattle.changes.specs.Change.{applied, atLane, changed, entryOf, keptChange, refusedChange, seenOf, wakesIn}
 use Rattle.changes.specs.declared.Change.{Change}
 use Rattle.changes.specs.declared.Seen.{Seen}
 
 -- ---- an answer that changes nothing
-pub kept-same : (l : Line) (i : ℕ) (a : Answer) → applied l i (kept (seenOf l i) a) ≡ l
+pub kept-same : (l : Line) (i : ℕ) (a : Answer) → applied l i (keptChange (seenOf l i) a) ≡ l
 kept-same l i a = rw (set-getD (l .lane) i idleLane, set-getD (l .flag) i 0)
 
 -- a result that is the change c of lane i; `left` is the book that an answer leaves
@@ -42,11 +42,11 @@ abbrev pub unchanged : List ℕ → Answer → List ℕ
 unchanged book a = book
 
 module _ (l : Line) (book : List ℕ) (left : Answer → List ℕ) (same : (k : ℕ) → left (Answer.Refused k) ≡ book) (i : ℕ) where
-  pub refused-step : (k : ℕ) → Gives l left i (refuse k (stateOf l book)) (refused (seenOf l i) k)
+  pub refused-step : (k : ℕ) → Gives l left i (refuse k (stateOf l book)) (refusedChange (seenOf l i) k)
   refused-step k = record { is = rw (kept-same l i (Answer.Refused k), same k) }
 
   -- a test that refuses the call, and what is left past it
-  pub guarded : (k : ℕ) (b : Bool) {c : Change} {r : Result} → Gives l left i r c → Gives l left i (cond b (refuse k (stateOf l book)) r) (cond b (refused (seenOf l i) k) c)
+  pub guarded : (k : ℕ) (b : Bool) {c : Change} {r : Result} → Gives l left i r c → Gives l left i (cond b (refuse k (stateOf l book)) r) (cond b (refusedChange (seenOf l i) k) c)
   guarded k true e = refused-step k
   guarded k false e = e
 
@@ -59,7 +59,7 @@ module _ (l : Line) (book : List ℕ) (left : Answer → List ℕ) (same : (k : 
 pub entry-is : (i : ℕ) → i < mostLanes → i ≡ entryOf i
 entry-is i h = omega arith
 
-module _ (l : Line) (book : List ℕ) (left : Answer → List ℕ) (same : (k : ℕ) → left (Answer.Refused k) ≡ book) (few : l .lanes ≤ mostLanes) (ok : sound l (length book) ≡ true) where
+module _ (l : Line) (book : List ℕ) (left : Answer → List ℕ) (same : (k : ℕ) → left (Answer.Refused k) ≡ book) (lanes-fit : l .lanes ≤ mostLanes) (ok : sound l (length book) ≡ true) where
   pub lane-step : (i : ℕ) (c : ℕ → Change) (rest : Result) → (i < l .lanes → Gives l left i rest (c i))
       → Gives l left (entryOf i) (chains.atLane (stateOf l book) i rest) (atLane (seenOf l (entryOf i)) i (c (entryOf i)))
   lane-step i c rest accepted =
@@ -77,13 +77,13 @@ pub record Regular (s : Seen) (c : Change) : Type 0 where
   pub gathered : isGathered (c .phase) ≡ isGathered (s .phase)
 
 module _ (s : Seen) where
-  pub regular-kept : (a : Answer) → Regular s (kept s a)
+  pub regular-kept : (a : Answer) → Regular s (keptChange s a)
   regular-kept a = record { wakes = refl; gathered = refl }
 
   pub regular-by : (b : Bool) {c d : Change} → (b ≡ true → Regular s c) → (b ≡ false → Regular s d) → Regular s (cond b c d)
   regular-by b {c} {d} f g = at-test (Regular s) b c d f g
 
-  pub regular-refused : (k : ℕ) (b : Bool) {c : Change} → (b ≡ false → Regular s c) → Regular s (cond b (refused s k) c)
+  pub regular-refused : (k : ℕ) (b : Bool) {c : Change} → (b ≡ false → Regular s c) → Regular s (cond b (refusedChange s k) c)
   regular-refused k b g = regular-by b (λ _. regular-kept (Answer.Refused k)) g
 
   pub regular-lane : (i : ℕ) {c : Change} → Regular s c → Regular s (atLane s i c)
@@ -98,11 +98,11 @@ reading-apart c v = by-test (eqb c 0) (λ e. rw e) (λ e. rw e)
 
 -- the lane that a search finds is one of the arrays
 found-in : (lanes : ℕ) (w : Wakes) → ((j : ℕ) → w ≡ Wakes.Lane j → j < lanes) → lanes ≤ mostLanes → wakesIn w ≡ true
-found-in lanes (Wakes.Lane j) below few = let h = below j refl in lt-ltb j mostLanes (omega arith)
-found-in lanes Wakes.None below few = refl
+found-in lanes (Wakes.Lane j) below lanes-fit = let h = below j refl in lt-ltb j mostLanes (omega arith)
+found-in lanes Wakes.None below lanes-fit = refl
 
 pub next-in : (lanes : ℕ) (flags : List ℕ) (i : ℕ) → lanes ≤ mostLanes → wakesIn (nextLane lanes flags i) ≡ true
-next-in lanes flags i few = found-in lanes (nextLane lanes flags i) (λ j e. next-below lanes flags i j e) few
+next-in lanes flags i lanes-fit = found-in lanes (nextLane lanes flags i) (λ j e. next-below lanes flags i j e) lanes-fit
 
 -- ---- so whether a lane is gathered is the same after a change
 any-set : (ls : List Lane) (i : ℕ) (x : Phase) → isGathered x ≡ isGathered (getD ls i idleLane .phase) → any (on isGathered) (set ls i (lane x)) ≡ any (on isGathered) ls

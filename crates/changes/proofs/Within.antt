@@ -38,7 +38,7 @@ module _ (l : Line) (n : ℕ) (G : Good l n) (i : ℕ) where
       let x = phaseAt l i in
       let most = place-most l x (region-at l (G .facts .base) i) (all-getD (on (valueOk (l .pointer))) (l .lane) i idleLane (G .facts .turn .values) refl) in
       record {
-        few = m .few;
+        lanes-fit = m .lanes-fit;
         sized = omega (arith, m .sized, m .held);
         held = m .held;
         reach = omega (arith, m .reach, most);
@@ -53,7 +53,7 @@ module _ (l : Line) (n : ℕ) (G : Good l n) (i : ℕ) where
       let size = eqb-true (l .size) 0 (and-left _ _ (and-right (eqb (l .capacity) 0) _ numbers)) in
       let idle : phaseAt l i ≡ Phase.Idle = G .facts .base .past i (omega arith) in
       record {
-        few = omega arith;
+        lanes-fit = omega arith;
         sized = omega arith;
         held = omega arith;
         reach = rw idle (omega arith);

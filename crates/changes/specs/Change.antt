@@ -36,15 +36,15 @@ seenOf l i =
     }
 
 -- an answer that changes nothing, and a refusal, which is one
-abbrev pub kept : Seen → Answer → Change
-kept s a = record { answer = a; phase = s .phase; flag = s .flag; pointer = s .pointer; size = s .size; wakes = Wakes.None }
+abbrev pub keptChange : Seen → Answer → Change
+keptChange s a = record { answer = a; phase = s .phase; flag = s .flag; pointer = s .pointer; size = s .size; wakes = Wakes.None }
 
-abbrev pub refused : Seen → ℕ → Change
-refused s k = kept s (Answer.Refused k)
+abbrev pub refusedChange : Seen → ℕ → Change
+refusedChange s k = keptChange s (Answer.Refused k)
 
 -- the tests of a call that names a lane: 4 and 8
 abbrev pub atLane : Seen → ℕ → Change → Change
-atLane s i c = cond (eqb (s .lanes) 0) (refused s 4) (cond (leb (s .lanes) i) (refused s 8) c)
+atLane s i c = cond (eqb (s .lanes) 0) (refusedChange s 4) (cond (leb (s .lanes) i) (refusedChange s 8) c)
 
 -- the lane that is woken is one that a line can have
 abbrev pub wakesIn : Wakes → Bool
@@ -65,7 +65,7 @@ changed l i c book = leaves (c .answer) (applied l i c) book
 
 -- what a sound line with a buffer of n bytes gives a lane's call: its numbers are in their ranges, and a busy writer's next record fits
 pub record Within (s : Seen) (v : View) (n : ℕ) : Type 0 where
-  pub few : s .lanes ≤ mostLanes
+  pub lanes-fit : s .lanes ≤ mostLanes
   pub sized : s .size ≤ n
   pub held : s .capacity ≤ n
   pub reach : placeIn (s .phase) .0 ≤ mostPointer

@@ -3,8 +3,8 @@ ghost use Prim.Native.Nat.{_<_};
 ghost use mathlib.Core.Bool.{true};
 ghost use mathlib.Core.Path.{_≡_};
 ghost use Rattle.line.specs.Line.{mostLanes};
-ghost use Rattle.changes.specs.Change.{entryOf, kept, outcomeOf, refused, seenOf, wakesIn};
-use lanes::tallies::any_gathered;
+ghost use Rattle.changes.specs.Change.{entryOf, keptChange, outcomeOf, refusedChange, seenOf, wakesIn};
+use lane_tests::tallies::any_gathered;
 use line::Lane;
 use line::Line;
 use line::MOST_LANES;
@@ -39,7 +39,7 @@ pub struct Change {
 
 // An answer that leaves the line as it is.
 pub fn keep(seen: Seen, answer: Answer) -> Change
-    ensures { λ r. ⌜ r ≡ kept seen answer ⌝ }
+    ensures { λ r. ⌜ r ≡ keptChange seen answer ⌝ }
 {
     let phase = seen.phase;
     let pointer = seen.pointer;
@@ -55,7 +55,7 @@ pub fn keep(seen: Seen, answer: Answer) -> Change
 
 // A refusal, which leaves the line as it is.
 pub fn refuse(seen: Seen, number: u8) -> Change
-    ensures { λ r. ⌜ r ≡ refused seen number ⌝ }
+    ensures { λ r. ⌜ r ≡ refusedChange seen number ⌝ }
 {
     keep(seen, Answer::Refused { number })
 }

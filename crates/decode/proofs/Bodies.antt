@@ -10,7 +10,7 @@ use borrow.Author.Tests.{le-leb, lt-leb}
 use Rattle.event.specs.Event.{bodyLength, eventOf, fieldLengths, isListed, kindOf}
 use Rattle.event.specs.declared.Reading.{Reading}
 use Rattle.event.proofs.ByKind.{by-kind, kind-of-event}
-use Rattle.fields.proofs.InOrder.{Cut, Got}
+use Rattle.decode_fields.proofs.InOrder.{Cut, Got}
 use Rattle.decode.specs.Body.{bodyAt}
 
 -- ---- the body of a listed kind

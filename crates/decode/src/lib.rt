@@ -2,11 +2,11 @@
 use event::Cursor;
 use event::Event;
 use event::Reading;
-use fields::BlocksField;
-use fields::Field8;
-use fields::Field16;
-use fields::Field32;
-use fields::Field64;
+use decode_fields::BlocksField;
+use decode_fields::Field8;
+use decode_fields::Field16;
+use decode_fields::Field32;
+use decode_fields::Field64;
 use view::Place;
 ghost use mathlib.Core.Path.{_≡_};
 ghost use Rattle.event.specs.ReadWrite.{readAt};
@@ -16,10 +16,10 @@ ghost use Rattle.decode.specs.Body.{bodyAt};
 fn read_open(sheet: &[u8], at: usize) -> Reading
     ensures { λ r. ⌜ r ≡ bodyAt 0x01 (now (sheet .entry)) at ⌝ }
 {
-    let Field8::Value(lanes, to_capacity) = fields::read_u8(sheet, at) else {
+    let Field8::Value(lanes, to_capacity) = decode_fields::read_u8(sheet, at) else {
         return Reading::Refused(3);
     };
-    let Field32::Value(capacity, end) = fields::read_u32(sheet, to_capacity) else {
+    let Field32::Value(capacity, end) = decode_fields::read_u32(sheet, to_capacity) else {
         return Reading::Refused(3);
     };
     let event = Event::Open { lanes, capacity };
@@ -33,10 +33,10 @@ fn read_open(sheet: &[u8], at: usize) -> Reading
 fn read_want(sheet: &[u8], at: usize) -> Reading
     ensures { λ r. ⌜ r ≡ bodyAt 0x02 (now (sheet .entry)) at ⌝ }
 {
-    let Field8::Value(lane, to_purpose) = fields::read_u8(sheet, at) else {
+    let Field8::Value(lane, to_purpose) = decode_fields::read_u8(sheet, at) else {
         return Reading::Refused(3);
     };
-    let Field8::Value(purpose, end) = fields::read_u8(sheet, to_purpose) else {
+    let Field8::Value(purpose, end) = decode_fields::read_u8(sheet, to_purpose) else {
         return Reading::Refused(3);
     };
     let event = Event::Want { lane, purpose };
@@ -50,7 +50,7 @@ fn read_want(sheet: &[u8], at: usize) -> Reading
 fn read_receive(sheet: &[u8], at: usize) -> Reading
     ensures { λ r. ⌜ r ≡ bodyAt 0x03 (now (sheet .entry)) at ⌝ }
 {
-    let Field8::Value(lane, end) = fields::read_u8(sheet, at) else {
+    let Field8::Value(lane, end) = decode_fields::read_u8(sheet, at) else {
         return Reading::Refused(3);
     };
     let event = Event::Receive { lane };
@@ -64,10 +64,10 @@ fn read_receive(sheet: &[u8], at: usize) -> Reading
 fn read_take(sheet: &[u8], at: usize) -> Reading
     ensures { λ r. ⌜ r ≡ bodyAt 0x04 (now (sheet .entry)) at ⌝ }
 {
-    let Field8::Value(lane, to_count) = fields::read_u8(sheet, at) else {
+    let Field8::Value(lane, to_count) = decode_fields::read_u8(sheet, at) else {
         return Reading::Refused(3);
     };
-    let Field16::Value(count, end) = fields::read_u16(sheet, to_count) else {
+    let Field16::Value(count, end) = decode_fields::read_u16(sheet, to_count) else {
         return Reading::Refused(3);
     };
     let event = Event::Take { lane, count };
@@ -81,10 +81,10 @@ fn read_take(sheet: &[u8], at: usize) -> Reading
 fn read_write(sheet: &[u8], at: usize) -> Reading
     ensures { λ r. ⌜ r ≡ bodyAt 0x05 (now (sheet .entry)) at ⌝ }
 {
-    let Field8::Value(lane, to_content) = fields::read_u8(sheet, at) else {
+    let Field8::Value(lane, to_content) = decode_fields::read_u8(sheet, at) else {
         return Reading::Refused(3);
     };
-    let Field64::Value(content, end) = fields::read_u64(sheet, to_content) else {
+    let Field64::Value(content, end) = decode_fields::read_u64(sheet, to_content) else {
         return Reading::Refused(3);
     };
     let event = Event::Write { lane, content };
@@ -98,7 +98,7 @@ fn read_write(sheet: &[u8], at: usize) -> Reading
 fn read_read(sheet: &[u8], at: usize) -> Reading
     ensures { λ r. ⌜ r ≡ bodyAt 0x06 (now (sheet .entry)) at ⌝ }
 {
-    let Field8::Value(lane, end) = fields::read_u8(sheet, at) else {
+    let Field8::Value(lane, end) = decode_fields::read_u8(sheet, at) else {
         return Reading::Refused(3);
     };
     let event = Event::Read { lane };
@@ -112,13 +112,13 @@ fn read_read(sheet: &[u8], at: usize) -> Reading
 fn read_put(sheet: &[u8], at: usize) -> Reading
     ensures { λ r. ⌜ r ≡ bodyAt 0x07 (now (sheet .entry)) at ⌝ }
 {
-    let Field8::Value(lane, to_place) = fields::read_u8(sheet, at) else {
+    let Field8::Value(lane, to_place) = decode_fields::read_u8(sheet, at) else {
         return Reading::Refused(3);
     };
-    let Field32::Value(place, to_content) = fields::read_u32(sheet, to_place) else {
+    let Field32::Value(place, to_content) = decode_fields::read_u32(sheet, to_place) else {
         return Reading::Refused(3);
     };
-    let Field64::Value(content, end) = fields::read_u64(sheet, to_content) else {
+    let Field64::Value(content, end) = decode_fields::read_u64(sheet, to_content) else {
         return Reading::Refused(3);
     };
     let event = Event::Put {
@@ -136,10 +136,10 @@ fn read_put(sheet: &[u8], at: usize) -> Reading
 fn read_look(sheet: &[u8], at: usize) -> Reading
     ensures { λ r. ⌜ r ≡ bodyAt 0x08 (now (sheet .entry)) at ⌝ }
 {
-    let Field8::Value(lane, to_place) = fields::read_u8(sheet, at) else {
+    let Field8::Value(lane, to_place) = decode_fields::read_u8(sheet, at) else {
         return Reading::Refused(3);
     };
-    let Field32::Value(place, end) = fields::read_u32(sheet, to_place) else {
+    let Field32::Value(place, end) = decode_fields::read_u32(sheet, to_place) else {
         return Reading::Refused(3);
     };
     let event = Event::Look {
@@ -156,7 +156,7 @@ fn read_look(sheet: &[u8], at: usize) -> Reading
 fn read_free(sheet: &[u8], at: usize) -> Reading
     ensures { λ r. ⌜ r ≡ bodyAt 0x09 (now (sheet .entry)) at ⌝ }
 {
-    let Field8::Value(lane, end) = fields::read_u8(sheet, at) else {
+    let Field8::Value(lane, end) = decode_fields::read_u8(sheet, at) else {
         return Reading::Refused(3);
     };
     let event = Event::Free { lane };
@@ -170,10 +170,10 @@ fn read_free(sheet: &[u8], at: usize) -> Reading
 fn read_enter(sheet: &[u8], at: usize) -> Reading
     ensures { λ r. ⌜ r ≡ bodyAt 0x0A (now (sheet .entry)) at ⌝ }
 {
-    let Field8::Value(lane, to_count) = fields::read_u8(sheet, at) else {
+    let Field8::Value(lane, to_count) = decode_fields::read_u8(sheet, at) else {
         return Reading::Refused(3);
     };
-    let Field16::Value(count, end) = fields::read_u16(sheet, to_count) else {
+    let Field16::Value(count, end) = decode_fields::read_u16(sheet, to_count) else {
         return Reading::Refused(3);
     };
     let event = Event::Enter { lane, count };
@@ -187,16 +187,16 @@ fn read_enter(sheet: &[u8], at: usize) -> Reading
 fn read_view(sheet: &[u8], at: usize) -> Reading
     ensures { λ r. ⌜ r ≡ bodyAt 0x0B (now (sheet .entry)) at ⌝ }
 {
-    let Field32::Value(displacement, to_extent) = fields::read_u32(sheet, at) else {
+    let Field32::Value(displacement, to_extent) = decode_fields::read_u32(sheet, at) else {
         return Reading::Refused(3);
     };
-    let Field16::Value(extent, to_used) = fields::read_u16(sheet, to_extent) else {
+    let Field16::Value(extent, to_used) = decode_fields::read_u16(sheet, to_extent) else {
         return Reading::Refused(3);
     };
-    let Field8::Value(used, to_blocks) = fields::read_u8(sheet, to_used) else {
+    let Field8::Value(used, to_blocks) = decode_fields::read_u8(sheet, to_used) else {
         return Reading::Refused(3);
     };
-    let BlocksField::Value(blocks, end) = fields::read_blocks(sheet, to_blocks) else {
+    let BlocksField::Value(blocks, end) = decode_fields::read_blocks(sheet, to_blocks) else {
         return Reading::Refused(3);
     };
     let event = Event::View {
@@ -215,15 +215,15 @@ fn read_view(sheet: &[u8], at: usize) -> Reading
 fn read_seek(sheet: &[u8], at: usize) -> Reading
     ensures { λ r. ⌜ r ≡ bodyAt 0x0C (now (sheet .entry)) at ⌝ }
 {
-    let Field8::Value(whence, to_offset) = fields::read_u8(sheet, at) else {
+    let Field8::Value(whence, to_offset) = decode_fields::read_u8(sheet, at) else {
         return Reading::Refused(3);
     };
-    let Field32::Value(offset, end) = fields::read_u32(sheet, to_offset) else {
+    let Field32::Value(offset, end) = decode_fields::read_u32(sheet, to_offset) else {
         return Reading::Refused(3);
     };
     let event = Event::Seek {
         whence,
-        offset: fields::signed_of(offset),
+        offset: decode_fields::signed_of(offset),
     };
     Reading::Event {
         event,

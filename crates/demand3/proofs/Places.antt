@@ -32,7 +32,7 @@ use Rattle.steps.proofs.Cases.{Steps, enters, frees, looks, opens, puts, reads,
 use Rattle.steps.proofs.Keeps.{GoodState, fresh-idle, holding-value}
 use Rattle.steps.proofs.Ordered.{busy-by, entered-all, started-by}
 use Rattle.steps.proofs.Stored.{other-phase, placed, same-phase}
-use Rattle.demand3.specs.Claim.{Entered, Entry, CallBytes, Grant, Handed, afterAll, callIn, countFor, enteredAfter, enteredNext, entries, grants, grantsBy, handTo, handed, isReset, range, shares, value}
+use Rattle.demand3.specs.Claim.{OrderedEntry, Entry, CallBytes, Grant, Handed, afterAll, callIn, countFor, enteredAfter, enteredNext, entries, grants, grantsBy, handTo, handed, isReset, range, shares, value}
 use Rattle.demand3.proofs.Seen.{by-entry, entryOf}
 use Rattle.demand3.proofs.Trace.{entryOn, then, then-good}
 
@@ -76,7 +76,7 @@ one-grant g =
     let z : g .count + 0 ≡ g .count = omega arith in
     ap (map (λ (h : Handed). h .place)) (append-nil (handTo (g .lane) (g .from) (g .count))) ∙ hand-range (g .lane) (g .from) (g .count) ∙ rw z
 
-shares-range : (ns : List Entered) (r from n : ℕ) → places (shares ns r from n) ≡ range from (total (shares ns r from n))
+shares-range : (ns : List OrderedEntry) (r from n : ℕ) → places (shares ns r from n) ≡ range from (total (shares ns r from n))
 unfolding shares range handed
 shares-range ns r from zero = refl
 shares-range ns r from (suc n) =
@@ -85,14 +85,14 @@ shares-range ns r from (suc n) =
     join (g ∷ []) (shares ns (suc r) (from + countFor ns r) n) from (from + countFor ns r) e (one-grant g) (shares-range ns (suc r) (from + countFor ns r) n)
 
 -- ---- the counts of an ordered call: those of the accepted 0A are those of the gathered lanes
-pub record Gathers (ns : List Entered) (l : Line) : Type 0 where
+pub record Gathers (ns : List OrderedEntry) (l : Line) : Type 0 where
   pub each : (r : ℕ) → countFor ns r ≡ countIn (phaseAt l r)
 
 no-counts : (ls : List Lane) → ((r : ℕ) → countIn ((getD ls r idleLane) .phase) ≡ 0) → gatheredTotal ls ≡ 0
 no-counts [] f = refl
 no-counts (x ∷ xs) f = let a = f 0 in let b = no-counts xs (λ r. f (suc r)) in omega arith
 
-shares-total : (ls : List Lane) (ns : List Entered) (k from n : ℕ) → ((r : ℕ) → countFor ns (k + r) ≡ countIn ((getD ls r idleLane) .phase))
+shares-total : (ls : List Lane) (ns : List OrderedEntry) (k from n : ℕ) → ((r : ℕ) → countFor ns (k + r) ≡ countIn ((getD ls r idleLane) .phase))
     → ((r : ℕ) → n ≤ r → countIn ((getD ls r idleLane) .phase) ≡ 0) → total (shares ns k from n) ≡ gatheredTotal ls
 unfolding shares
 shares-total ls ns k from zero f z = sym (no-counts ls (λ r. z r (omega arith)))
@@ -106,7 +106,7 @@ shares-total (x ∷ xs) ns k from (suc n) f z =
     omega arith
 
 -- ---- a step that is no reset hands out its places from the pointer on, and moves the pointer past them
-pub record Moves (x : State) (ns : List Entered) (e : Entry) (r : Result) : Type 0 where
+pub record Moves (x : State) (ns : List OrderedEntry) (e : Entry) (r : Result) : Type 0 where
   pub pointer : r .after .line .pointer .0 ≡ x .line .pointer .0 + total (grantsBy (x .line .lanes) ns e)
   pub in-order : map (λ (h : Handed). h .place) (handed (grantsBy (x .line .lanes) ns e)) ≡ range (x .line .pointer .0) (total (grantsBy (x .line .lanes) ns e))
   pub gathers : Gathers (enteredNext ns e) (r .after .line)
@@ -147,12 +147,12 @@ wake-count : (t : Line) (w : Wakes) (r : ℕ) → countIn (phaseAt (wake t w) r)
 wake-count t (Wakes.Lane i) r = same-count t i r (woken (t .pointer) (phaseAt t i)) (woken-count (t .pointer) (phaseAt t i))
 wake-count t Wakes.None r = refl
 
-module _ (x : State) (G : GoodState x) (ns : List Entered) (C : Gathers ns (x .line)) where
+module _ (x : State) (G : GoodState x) (ns : List OrderedEntry) (C : Gathers ns (x .line)) where
   -- a step that hands nothing out, after which every lane has the count that it had
-  quiet : (e : Entry) (r : Result) → grantsBy (x .line .lanes) ns e ≡ [] → enteredNext ns e ≡ ns → r .after .line .pointer .0 ≡ x .line .pointer .0
+  hands-out-nothing : (e : Entry) (r : Result) → grantsBy (x .line .lanes) ns e ≡ [] → enteredNext ns e ≡ ns → r .after .line .pointer .0 ≡ x .line .pointer .0
       → r .after .line .lanes ≡ x .line .lanes → ((k : ℕ) → countIn (phaseAt (r .after .line) k) ≡ countIn (phaseAt (x .line) k)) → Moves x ns e r
   unfolding handed range
-  quiet e r g n p q c =
+  hands-out-nothing e r g n p q c =
       record {
         pointer = rw g (omega arith);
         in-order = rw g nothing;
@@ -198,7 +198,7 @@ module _ (x : State) (G : GoodState x) (ns : List Entered) (C : Gathers ns (x .l
       → Moves x ns (entryOf (Event.Enter j c) d (saidBy (ordered x (entered (x .line) j c) .answer))) (ordered x (entered (x .line) j c))
   unfolding countFor
   complete-moves j c h q g d =
-      let ms : List Entered = record { lane = j; count = c } ∷ ns in
+      let ms : List OrderedEntry = record { lane = j; count = c } ∷ ns in
       let sum : total (shares ms 0 (x .line .pointer .0) (x .line .lanes)) ≡ gatheredTotal (entered (x .line) j c) =
       shares-total (entered (x .line) j c) ms 0 (x .line .pointer .0) (x .line .lanes)
       (λ r. let z : 0 + r ≡ r = omega arith in rw z (enter-counts j c h r))
@@ -211,26 +211,26 @@ module _ (x : State) (G : GoodState x) (ns : List Entered) (C : Gathers ns (x .l
       }
 
   pub moves : (e : Event) (d : Entry) (r : Result) → Steps nextLane x (given e) r → isReset (entryOf e d (saidBy (r .answer))) ≡ false → Moves x ns (entryOf e d (saidBy (r .answer))) r
-  moves e d r (refuses n) f = quiet _ _ refl refl refl refl (λ k. refl)
+  moves e d r (refuses n) f = hands-out-nothing _ _ refl refl refl refl (λ k. refl)
   moves e d r (opens lanes capacity z a b c g h) f = clash f
   moves e d r (wants j p h q g) f =
       at-test (λ (t : Result). Moves x ns (entryOf (Event.Want j p) d (saidBy (t .answer))) t) (othersDown (x .line) j) _ _
-      (λ t. quiet _ _ refl refl refl refl (quiet-at j Phase.Idle (Phase.Holding (purposeOf p) (x .line .pointer)) q refl refl))
-      (λ t. quiet _ _ refl refl refl refl (quiet-at j Phase.Idle (Phase.Waiting (purposeOf p)) q refl refl))
-  moves e d r (receives j p v h q) f = quiet _ _ refl refl refl refl (quiet-at j (Phase.Woken p v) (Phase.Holding p v) q refl refl)
+      (λ t. hands-out-nothing _ _ refl refl refl refl (quiet-at j Phase.Idle (Phase.Holding (purposeOf p) (x .line .pointer)) q refl refl))
+      (λ t. hands-out-nothing _ _ refl refl refl refl (quiet-at j Phase.Idle (Phase.Waiting (purposeOf p)) q refl refl))
+  moves e d r (receives j p v h q) f = hands-out-nothing _ _ refl refl refl refl (quiet-at j (Phase.Woken p v) (Phase.Holding p v) q refl refl)
   moves e d r (take-writes j c v h q g) f = take-moves _ _ j c Purpose.SharedWrite v (writing c v) q (busy-count c (Phase.BusyWriting c v) refl) refl refl refl
   moves e d r (take-reads j c v h q g) f = take-moves _ _ j c Purpose.SharedRead v (reading c v) q (busy-count c (Phase.BusyReading c v) refl) refl refl refl
   moves e d r (writes j content n k h q) f =
-      quiet _ _ refl refl refl refl (quiet-at j (Phase.BusyWriting n k) (oneLess (Phase.BusyWriting n k)) q refl (busy-count (n - 1) (Phase.BusyWriting (n - 1) (place (k .0 + 1))) refl))
+      hands-out-nothing _ _ refl refl refl refl (quiet-at j (Phase.BusyWriting n k) (oneLess (Phase.BusyWriting n k)) q refl (busy-count (n - 1) (Phase.BusyWriting (n - 1) (place (k .0 + 1))) refl))
   moves e d r (reads j n k h q) f =
       let c = quiet-at j (Phase.BusyReading n k) (oneLess (Phase.BusyReading n k)) q refl (busy-count (n - 1) (Phase.BusyReading (n - 1) (place (k .0 + 1))) refl) in
-      by-test (leb (recordEnd (x .line .view) k) (x .line .size)) (λ t. rw t (quiet _ _ refl refl refl refl c)) (λ t. rw t (quiet _ _ refl refl refl refl c))
-  moves e d r (puts j k content v h q g) f = quiet _ _ refl refl refl refl (λ m. refl)
+      by-test (leb (recordEnd (x .line .view) k) (x .line .size)) (λ t. rw t (hands-out-nothing _ _ refl refl refl refl c)) (λ t. rw t (hands-out-nothing _ _ refl refl refl refl c))
+  moves e d r (puts j k content v h q g) f = hands-out-nothing _ _ refl refl refl refl (λ m. refl)
   moves e d r (looks j k v h q) f =
-      by-test (leb (recordEnd (x .line .view) k) (x .line .size)) (λ t. rw t (quiet _ _ refl refl refl refl (λ m. refl))) (λ t. rw t (quiet _ _ refl refl refl refl (λ m. refl)))
+      by-test (leb (recordEnd (x .line .view) k) (x .line .size)) (λ t. rw t (hands-out-nothing _ _ refl refl refl refl (λ m. refl))) (λ t. rw t (hands-out-nothing _ _ refl refl refl refl (λ m. refl)))
   moves e d r (frees j v h q) f =
       let t = freed (x .line) j in
-      quiet _ _ refl refl (ap (λ (k : Place). k .0) (wake-pointer t (nextOf nextLane t j))) (wake-lanes t (nextOf nextLane t j))
+      hands-out-nothing _ _ refl refl (ap (λ (k : Place). k .0) (wake-pointer t (nextOf nextLane t j))) (wake-lanes t (nextOf nextLane t j))
       (λ k. wake-count t (nextOf nextLane t j) k ∙ quiet-at j (Phase.Holding Purpose.WholeBook v) Phase.Idle q refl refl k)
   moves e d r (enters j c h q g o) f =
       at-test (λ (t : Result). Moves x ns (entryOf (Event.Enter j c) d (saidBy (t .answer))) t) (allEntered (x .line) (entered (x .line) j c)) _ _
@@ -240,19 +240,19 @@ module _ (x : State) (G : GoodState x) (ns : List Entered) (C : Gathers ns (x .l
   moves e d r (seeks whence offset n z t m g) f = clash f
 
 -- ---- over a stretch of calls with no reset
-pub record Placed (x : State) (gs : List CallBytes) (ns : List Entered) : Type 0 where
+pub record Placed (x : State) (gs : List CallBytes) (ns : List OrderedEntry) : Type 0 where
   pub in-order : map (λ (h : Handed). h .place) (handed (grants (x .line .lanes) ns (entries nextLane x gs))) ≡ range (x .line .pointer .0) (total (grants (x .line .lanes) ns (entries nextLane x gs)))
   pub last : afterAll nextLane x gs .line .pointer .0 ≡ x .line .pointer .0 + total (grants (x .line .lanes) ns (entries nextLane x gs))
 
-moves-on : (x : State) → GoodState x → (ns : List Entered) → Gathers ns (x .line) → (g : CallBytes) → isReset (entryOn x g) ≡ false → Moves x ns (entryOn x g) (stepBy nextLane x (callIn g))
+moves-on : (x : State) → GoodState x → (ns : List OrderedEntry) → Gathers ns (x .line) → (g : CallBytes) → isReset (entryOn x g) ≡ false → Moves x ns (entryOn x g) (stepBy nextLane x (callIn g))
 moves-on x G ns C g =
-    by-entry x g (λ (e : Entry) (r : Result). isReset e ≡ false → Moves x ns e r) (λ d n f. quiet x G ns C _ _ refl refl refl refl (λ k. refl)) (moves x G ns C)
+    by-entry x g (λ (e : Entry) (r : Result). isReset e ≡ false → Moves x ns e r) (λ d n f. hands-out-nothing x G ns C _ _ refl refl refl refl (λ k. refl)) (moves x G ns C)
 
 sums : (a b c p q : ℕ) → a ≡ q + c → q ≡ p + b → a ≡ p + (b + c)
 sums a b c p q e f = omega arith
 
 -- one call and then the others, whose N is the same
-first-then : (g : CallBytes) (gs : List CallBytes) (x : State) (ns : List Entered) → Moves x ns (entryOn x g) (stepBy nextLane x (callIn g))
+first-then : (g : CallBytes) (gs : List CallBytes) (x : State) (ns : List OrderedEntry) → Moves x ns (entryOn x g) (stepBy nextLane x (callIn g))
     → Placed (then x g) gs (enteredNext ns (entryOn x g)) → Placed x (g ∷ gs) ns
 unfolding entries grants afterBy
 first-then g gs x ns m P =
@@ -266,7 +266,7 @@ first-then g gs x ns m P =
       last = sums (afterAll nextLane (then x g) gs .line .pointer .0) (total a) (total b) (x .line .pointer .0) (then x g .line .pointer .0) last-b (m .pointer) ∙ ap (λ (n : ℕ). x .line .pointer .0 + n) (sym (total-append a b));
     }
 
-pub all-placed : (gs : List CallBytes) (x : State) (ns : List Entered) → GoodState x → Gathers ns (x .line) → count isReset (entries nextLane x gs) ≡ 0 → Placed x gs ns
+pub all-placed : (gs : List CallBytes) (x : State) (ns : List OrderedEntry) → GoodState x → Gathers ns (x .line) → count isReset (entries nextLane x gs) ≡ 0 → Placed x gs ns
 unfolding entries grants afterBy handed range
 all-placed [] x ns G C z = record { in-order = refl; last = omega arith }
 all-placed (g ∷ gs) x ns G C z =
@@ -280,7 +280,7 @@ no-reset : {X : Type 0} (b : Bool) → b && false || b && false || b && false �
 no-reset true e = clash (sym e)
 no-reset false e = clash (sym e)
 
-reset-gathers : (x : State) → GoodState x → (ns : List Entered) → Gathers ns (x .line) → (g : CallBytes) → isReset (entryOn x g) ≡ true → Gathers (enteredNext ns (entryOn x g)) (then x g .line)
+reset-gathers : (x : State) → GoodState x → (ns : List OrderedEntry) → Gathers ns (x .line) → (g : CallBytes) → isReset (entryOn x g) ≡ true → Gathers (enteredNext ns (entryOn x g)) (then x g .line)
 reset-gathers x G ns C g =
     by-entry x g (λ (e : Entry) (r : Result). isReset e ≡ true → Gathers (enteredNext ns e) (r .after .line)) (λ d n f. clash (sym f)) resets
   where
@@ -301,7 +301,7 @@ reset-gathers x G ns C g =
     resets e d r (views displacement extent used blocks z o i) f = record { each = C .each }
     resets e d r (seeks whence offset n z t m i) f = record { each = C .each }
 
-pub gathers-all : (gs : List CallBytes) (x : State) (ns : List Entered) → GoodState x → Gathers ns (x .line) → Gathers (enteredAfter ns (entries nextLane x gs)) (afterAll nextLane x gs .line)
+pub gathers-all : (gs : List CallBytes) (x : State) (ns : List OrderedEntry) → GoodState x → Gathers ns (x .line) → Gathers (enteredAfter ns (entries nextLane x gs)) (afterAll nextLane x gs .line)
 unfolding entries enteredAfter afterBy
 gathers-all [] x ns G C = C
 gathers-all (g ∷ gs) x ns G C =

@@ -31,7 +31,7 @@ use Rattle.steps.proofs.Keeps.{GoodState, free-leaving, fresh-idle, take-reads-
 use Rattle.steps.proofs.Ordered.{busy-by, entered-all, started-by}
 use Rattle.steps.proofs.Release.{Chosen, Leaving, chosen, woken-now}
 use Rattle.steps.proofs.Stored.{other-phase, placed, same-phase}
-use Rattle.demand3.specs.Claim.{Entry, CallBytes, Status, afterAll, entries, hasTurn, holding, isWaiting, off, purposeFor, status, statusNext, waiting, wakes, woken, wokenBy}
+use Rattle.demand3.specs.Claim.{Entry, CallBytes, Status, afterAll, entries, statusHasTurn, holding, statusWaits, off, purposeFor, status, statusNext, waiting, wakes, woken, wokenBy}
 use Rattle.demand3.proofs.Seen.{by-entry, entryOf}
 use Rattle.demand3.proofs.Trace.{entryOn, then, then-good}
 
@@ -44,7 +44,7 @@ statusOf (Phase.BusyWriting n k) = off
 statusOf (Phase.BusyReading n k) = off
 statusOf (Phase.Gathered n) = off
 
-pub waits-is : (y : Phase) → isWaiting (statusOf y) ≡ phases.isWaiting y
+pub waits-is : (y : Phase) → statusWaits (statusOf y) ≡ phases.isWaiting y
 waits-is Phase.Idle = refl
 waits-is (Phase.Waiting p) = refl
 waits-is (Phase.Woken p v) = refl
@@ -53,7 +53,7 @@ waits-is (Phase.BusyWriting n k) = refl
 waits-is (Phase.BusyReading n k) = refl
 waits-is (Phase.Gathered n) = refl
 
-pub turn-is : (y : Phase) → hasTurn (statusOf y) ≡ phases.hasTurn y
+pub turn-is : (y : Phase) → statusHasTurn (statusOf y) ≡ phases.hasTurn y
 turn-is Phase.Idle = refl
 turn-is (Phase.Waiting p) = refl
 turn-is (Phase.Woken p v) = refl

@@ -21,7 +21,7 @@ use Rattle.steps.specs.Effects.{allEntered, entered, freed, nextOf, othersDown,
 use Rattle.steps.specs.Step.{afterBy}
 use Rattle.steps.proofs.Cases.{Steps, enters, frees, looks, opens, puts, reads, receives, refuses, seeks, take-reads, take-writes, views, wants, writes}
 use Rattle.steps.proofs.Keeps.{GoodState, fresh-idle, unopened-good}
-use Rattle.demand3.specs.Claim.{DemandThree, Entry, CallBytes, InOrder, NextAccepted, OneTurn, OnlyTurn, Status, WaitEnds, afterAll, entries, entriesAfter, enteredAfter, entriesOf, entryAfter, grants, hasTurn, isAccepted, isReset, isWaiting, lanesIn, off, status, statusNext, tellsToWait, value, waiting, wantsBy}
+use Rattle.demand3.specs.Claim.{DemandThree, Entry, CallBytes, InOrder, NextAccepted, OneTurn, OnlyTurn, Status, WaitEnds, afterAll, entries, entriesAfter, enteredAfter, entriesOf, entryAfter, grants, statusHasTurn, isAccepted, isReset, statusWaits, lanesIn, off, status, statusNext, tellsToWait, value, waiting, wantsBy}
 use Rattle.demand3.proofs.Goes.{OnlyPhase, goes, only-turn}
 use Rattle.demand3.proofs.Places.{all-placed, gathers-all, start-gathers, total, wake-lanes}
 use Rattle.demand3.proofs.Seen.{by-entry, entryOf}
@@ -84,21 +84,21 @@ module _ (book : List ℕ) (early : List CallBytes) where
   lanes-here : lanesIn 0 (entriesOf nextLane book early) ≡ here .line .lanes
   lanes-here = lanes-are early (fresh book)
 
-  waits-here : (i : ℕ) → isWaiting (status i off (entriesOf nextLane book early)) ≡ true → phases.isWaiting (phaseAt (here .line) i) ≡ true
-  waits-here i w = sym (waits-is (phaseAt (here .line) i)) ∙ ap isWaiting (sym (stood i)) ∙ w
+  waits-here : (i : ℕ) → statusWaits (status i off (entriesOf nextLane book early)) ≡ true → phases.isWaiting (phaseAt (here .line) i) ≡ true
+  waits-here i w = sym (waits-is (phaseAt (here .line) i)) ∙ ap statusWaits (sym (stood i)) ∙ w
 
   one-turn : (h : ℕ) → OnlyPhase (here .line) h → OnlyTurn (entriesOf nextLane book early) h
   one-turn h a =
       record {
-        has = ap hasTurn (stood h) ∙ turn-is (phaseAt (here .line) h) ∙ a .has;
-        only = λ j t. a .only j (sym (turn-is (phaseAt (here .line) j)) ∙ ap hasTurn (sym (stood j)) ∙ t);
+        has = ap statusHasTurn (stood h) ∙ turn-is (phaseAt (here .line) h) ∙ a .has;
+        only = λ j t. a .only j (sym (turn-is (phaseAt (here .line) j)) ∙ ap statusHasTurn (sym (stood j)) ∙ t);
       }
 
-  turn-here : (i : ℕ) → isWaiting (status i off (entriesOf nextLane book early)) ≡ true → OneTurn nextLane book early
+  turn-here : (i : ℕ) → statusWaits (status i off (entriesOf nextLane book early)) ≡ true → OneTurn nextLane book early
   turn-here i w = let h = only-turn (here .line) (good .facts) i (waits-here i w) in record { holder = h .0; one = one-turn (h .0) (h .1) }
 
-  goes-here : (h : ℕ) → hasTurn (status h off (entriesOf nextLane book early)) ≡ true → NextAccepted nextLane book early h
-  goes-here h t = rw (stood h) (goes here good h (sym (turn-is (phaseAt (here .line) h)) ∙ ap hasTurn (sym (stood h)) ∙ t))
+  goes-here : (h : ℕ) → statusHasTurn (status h off (entriesOf nextLane book early)) ≡ true → NextAccepted nextLane book early h
+  goes-here h t = rw (stood h) (goes here good h (sym (turn-is (phaseAt (here .line) h)) ∙ ap statusHasTurn (sym (stood h)) ∙ t))
 
   wait-ends : (i : ℕ) (later : List CallBytes) → phases.isWaiting (phaseAt (here .line) i) ≡ true → WaitEnds nextLane book i early later
   wait-ends i later w =
@@ -117,7 +117,7 @@ module _ (book : List ℕ) (early : List CallBytes) where
       let e = entryAfter nextLane book early told in
       let w : wantsBy i e ≡ true = and-left (wantsBy i e) _ t in
       let s : statusNext i (statusOf (phaseAt (here .line) i)) e ≡ waiting (purposeOf (e .purpose)) = rw (t, w) in
-      sym (waits-is (phaseAt (then here told .line) i)) ∙ ap isWaiting (sym (stand-call here good i told) ∙ s)
+      sym (waits-is (phaseAt (then here told .line) i)) ∙ ap statusWaits (sym (stand-call here good i told) ∙ s)
 
 -- ---- the places
 module _ (book : List ℕ) (early later : List CallBytes) (first : CallBytes) where

@@ -20,7 +20,7 @@ use Rattle.steps.proofs.Cases.{steps}
 use Rattle.steps.proofs.Keeps.{GoodState, keeps}
 use Rattle.demand3.specs.Claim.{Entry, CallBytes, callIn, entries, entry, isRelease, saidTo, wakes, wantsBy}
 use Rattle.demand3.proofs.Seen.{by-entry}
-use Rattle.demand3.proofs.Turn.{Rests, Turn, calm, its, nearer, rests, turn, turn-up, up-inside, waits-no-turn}
+use Rattle.demand3.proofs.Turn.{Rests, Turn, no-release, wakes-waiter, nearer, rests, turn, turn-up, up-inside, waits-no-turn}
 
 -- the state after one call, and what it is
 abbrev pub then : State → CallBytes → State
@@ -34,7 +34,7 @@ then-good x g G = keeps G (steps nextLane x (callIn g))
 
 turn-on : (x : State) (G : GoodState x) (i h : ℕ) → isWaiting (phaseAt (x .line) i) ≡ true → hasTurn (phaseAt (x .line) h) ≡ true → (g : CallBytes)
     → Turn x i h (entryOn x g) (stepBy nextLane x (callIn g))
-turn-on x G i h wi th g = by-entry x g (Turn x i h) (λ d n. calm refl (λ j. refl) refl wi th) (turn x G i h wi th)
+turn-on x G i h wi th g = by-entry x g (Turn x i h) (λ d n. no-release refl (λ j. refl) refl wi th) (turn x G i h wi th)
 
 rests-on : (x : State) (G : GoodState x) (i : ℕ) → isWaiting (phaseAt (x .line) i) ≡ false → (g : CallBytes) → Rests i (entryOn x g) (stepBy nextLane x (callIn g))
 rests-on x G i wi g = by-entry x g (Rests i) (λ d n. record { unwoken = refl; unwaiting = inr wi }) (rests x G i wi)
@@ -60,10 +60,10 @@ sent (g ∷ gs) x i h G wi th d = go (turn-on x G i h wi th g) (λ j. sent gs (t
         → ((j : ℕ) → isWaiting (phaseAt (then x g .line) i) ≡ true → hasTurn (phaseAt (then x g .line) j) ≡ true
         → distance (then x g .line .lanes) j i ≤ count isRelease (entries nextLane (then x g) gs) → 1 ≤ count (wakes i) (entries nextLane (then x g) gs))
         → 1 ≤ bit (wakes i (entryOn x g)) + count (wakes i) (entries nextLane (then x g) gs)
-    go (calm a b n w t) ih =
+    go (no-release a b n w t) ih =
         let d' : distance (x .line .lanes) h i ≤ bit false + count isRelease (entries nextLane (then x g) gs) = rw a at d in
         let r = ih h w t (rw n (omega arith)) in omega arith
-    go (its a b w) ih = rw b (omega arith)
+    go (wakes-waiter a b w) ih = rw b (omega arith)
     go (nearer j a b ne n w t near) ih =
         let d' : distance (x .line .lanes) h i ≤ bit true + count isRelease (entries nextLane (then x g) gs) = rw a at d in
         let r = ih j w t (rw n (omega arith)) in omega arith
@@ -83,9 +83,9 @@ fair (g ∷ gs) x i h j G wi th z = go (turn-on x G i h wi th g) (λ k. fair gs 
         → ((k : ℕ) → isWaiting (phaseAt (then x g .line) i) ≡ true → hasTurn (phaseAt (then x g .line) k) ≡ true → later i ≡ 0
         → (later j ≤ 1) × (distance (then x g .line .lanes) k i ≤ distance (then x g .line .lanes) j i → later j ≡ 0))
         → (bit (wakes j (entryOn x g)) + later j ≤ 1) × (distance (x .line .lanes) h i ≤ distance (x .line .lanes) j i → bit (wakes j (entryOn x g)) + later j ≡ 0)
-    go (calm a b n w t) ih =
+    go (no-release a b n w t) ih =
         let r = ih h w t (omega arith) in rw (b j) (omega (arith, r .0), λ d. let q = r .1 (rw n d) in omega arith)
-    go (its a b w) ih = let z' : bit true + later i ≡ 0 = rw b at z in absurd (omega arith)
+    go (wakes-waiter a b w) ih = let z' : bit true + later i ≡ 0 = rw b at z in absurd (omega arith)
     go (nearer k a b ne n w t near) ih =
         let r = ih k w t (omega arith) in
         elim (ℕ-discrete j k) [
@@ -119,6 +119,6 @@ single (g ∷ gs) x i h G wi th z = go (turn-on x G i h wi th g) (λ k u v. sing
     go : Turn x i h (entryOn x g) (stepBy nextLane x (callIn g))
         → ((k : ℕ) → isWaiting (phaseAt (then x g .line) i) ≡ true → hasTurn (phaseAt (then x g .line) k) ≡ true → count (wakes i) (entries nextLane (then x g) gs) ≤ 1)
         → bit (wakes i (entryOn x g)) + count (wakes i) (entries nextLane (then x g) gs) ≤ 1
-    go (calm a b n w t) ih = rw (b i) (let q = ih h w t in omega arith)
-    go (its a b w) ih = let q = never gs (then x g) i (then-good x g G) w (omega arith) in rw b (omega arith)
+    go (no-release a b n w t) ih = rw (b i) (let q = ih h w t in omega arith)
+    go (wakes-waiter a b w) ih = let q = never gs (then x g) i (then-good x g G) w (omega arith) in rw b (omega arith)
     go (nearer k a b ne n w t near) ih = rw (b i, ne-eqb i k (λ z. ne (sym z))) (let q = ih k w t in omega arith)

@@ -81,10 +81,10 @@ turn-found l F u = let r = count-find (on hasTurn) (l .lane) idleLane (omega (ar
 -- ---- a step while lane i waits and lane h has the turn
 pub data Turn (x : State) (i h : ℕ) (e : Entry) (r : Result) : Type 0 where
   -- no release: both stay as they are
-  calm : isRelease e ≡ false → ((j : ℕ) → wakes j e ≡ false) → r .after .line .lanes ≡ x .line .lanes → isWaiting (phaseAt (r .after .line) i) ≡ true
+  no-release : isRelease e ≡ false → ((j : ℕ) → wakes j e ≡ false) → r .after .line .lanes ≡ x .line .lanes → isWaiting (phaseAt (r .after .line) i) ≡ true
       → hasTurn (phaseAt (r .after .line) h) ≡ true → Turn x i h e r
   -- a release that wakes i
-  its : isRelease e ≡ true → wakes i e ≡ true → isWaiting (phaseAt (r .after .line) i) ≡ false → Turn x i h e r
+  wakes-waiter : isRelease e ≡ true → wakes i e ≡ true → isWaiting (phaseAt (r .after .line) i) ≡ false → Turn x i h e r
   -- a release that wakes another lane, nearer to i
   nearer : (w : ℕ) → isRelease e ≡ true → ((j : ℕ) → wakes j e ≡ eqb j w) → w ≢ i → r .after .line .lanes ≡ x .line .lanes → isWaiting (phaseAt (r .after .line) i) ≡ true
       → hasTurn (phaseAt (r .after .line) w) ≡ true → distance (x .line .lanes) w i < distance (x .line .lanes) h i → Turn x i h e r
@@ -130,7 +130,7 @@ module _ (x : State) (G : GoodState x) (i h : ℕ) (wi : isWaiting (phaseAt (x .
       go Wakes.None t = absurd (alone (x .line) (G .facts) k o y q L t i inside ik (waiting-up (phaseAt (x .line) i) wi))
       go (Wakes.Lane w) t =
           elim (ℕ-discrete w i) [
-            | yes z ↦ its re (names i ∙ eq-eqb i w (sym z)) (rw (lines, ← z, now))
+            | yes z ↦ wakes-waiter re (names i ∙ eq-eqb i w (sym z)) (rw (lines, ← z, now))
             | no z ↦ nearer w re names z (ap (λ (l : Line). l .lanes) lines)
                 (rw (lines, there i (λ u. z (sym u)), still) wi) (rw (lines, now))
                 (rw (← kh) (C .nearer i inside (waiting-up (phaseAt (x .line) i) wi) ik (λ u. z (sym u))))
@@ -159,27 +159,27 @@ module _ (x : State) (G : GoodState x) (i h : ℕ) (wi : isWaiting (phaseAt (x .
   none-idle e = omega (arith, some-up, kinds-count (x .line .lane), all-count (on isIdle) (x .line .lane) e)
 
   pub turn : (e : Event) (d : Entry) (r : Result) → Steps nextLane x (given e) r → Turn x i h (entryOf e d (saidBy (r .answer))) r
-  turn e d r (refuses n) = calm refl (λ j. refl) refl wi th
+  turn e d r (refuses n) = no-release refl (λ j. refl) refl wi th
   turn e d r (opens lanes capacity z a b c f g) = absurd (omega (arith, inside))
   turn e d r (wants j p hj q g) =
       at-test (λ (t : Result). Turn x i h (entryOf (Event.Want j p) d (saidBy (t .answer))) t) (othersDown (x .line) j) _ _
       (λ t. absurd (omega (arith, some-up, others-none (x .line) (G .facts) j hj q t)))
-      (λ t. let k = kept j Phase.Idle (Phase.Waiting (purposeOf p)) q refl refl in calm refl (λ m. refl) refl (k .0) (k .1))
+      (λ t. let k = kept j Phase.Idle (Phase.Waiting (purposeOf p)) q refl refl in no-release refl (λ m. refl) refl (k .0) (k .1))
   turn e d r (receives j p v hj q) =
-      calm refl (λ m. refl) refl (rw (other-phase (x .line) j i (Phase.Holding p v) (differ isWaiting (x .line) i j (Phase.Woken p v) q refl wi)) wi)
+      no-release refl (λ m. refl) refl (rw (other-phase (x .line) j i (Phase.Holding p v) (differ isWaiting (x .line) i j (Phase.Woken p v) q refl wi)) wi)
       (let z : h ≡ j = same-turn (x .line) (G .facts) h j th (rw q) in rw (z, same-phase (x .line) (G .facts .base) j (Phase.Holding p v) hj))
   turn e d r (take-writes j c v hj q f) =
       leaves-turn _ _ j (Phase.Holding Purpose.SharedWrite v) (writing c v) (place (v .0 + c)) refl refl refl refl (take-writes-leaving (x .line) (G .facts) j c v hj q f)
   turn e d r (take-reads j c v hj q f) =
       leaves-turn _ _ j (Phase.Holding Purpose.SharedRead v) (reading c v) (place (v .0 + c)) refl refl refl refl (take-reads-leaving (x .line) (G .facts) j c v hj q)
   turn e d r (writes j content n k hj q) =
-      let m = kept j (Phase.BusyWriting n k) (oneLess (Phase.BusyWriting n k)) q refl refl in calm refl (λ m. refl) refl (m .0) (m .1)
+      let m = kept j (Phase.BusyWriting n k) (oneLess (Phase.BusyWriting n k)) q refl refl in no-release refl (λ m. refl) refl (m .0) (m .1)
   turn e d r (reads j n k hj q) =
       let m = kept j (Phase.BusyReading n k) (oneLess (Phase.BusyReading n k)) q refl refl in
-      by-test (leb (recordEnd (x .line .view) k) (x .line .size)) (λ t. rw t (calm refl (λ m. refl) refl (m .0) (m .1))) (λ t. rw t (calm refl (λ m. refl) refl (m .0) (m .1)))
-  turn e d r (puts j k content v hj q f) = calm refl (λ m. refl) refl wi th
+      by-test (leb (recordEnd (x .line .view) k) (x .line .size)) (λ t. rw t (no-release refl (λ m. refl) refl (m .0) (m .1))) (λ t. rw t (no-release refl (λ m. refl) refl (m .0) (m .1)))
+  turn e d r (puts j k content v hj q f) = no-release refl (λ m. refl) refl wi th
   turn e d r (looks j k v hj q) =
-      by-test (leb (recordEnd (x .line .view) k) (x .line .size)) (λ t. rw t (calm refl (λ m. refl) refl wi th)) (λ t. rw t (calm refl (λ m. refl) refl wi th))
+      by-test (leb (recordEnd (x .line .view) k) (x .line .size)) (λ t. rw t (no-release refl (λ m. refl) refl wi th)) (λ t. rw t (no-release refl (λ m. refl) refl wi th))
   turn e d r (frees j v hj q) =
       leaves-turn _ _ j (Phase.Holding Purpose.WholeBook v) Phase.Idle (x .line .pointer) refl refl refl refl (free-leaving (x .line) (G .facts) j v hj q)
   turn e d r (enters j c hj q g f) = absurd (none-ready g)

@@ -116,23 +116,23 @@ unfoldable pub status : ℕ → Status → List Entry → Status
 status i s [] = s
 status i s (e ∷ es) = status i (statusNext i s e) es
 
-abbrev pub isWaiting : Status → Bool
-isWaiting off = false
-isWaiting (waiting p) = true
-isWaiting (woken p) = false
-isWaiting (holding p) = false
+abbrev pub statusWaits : Status → Bool
+statusWaits off = false
+statusWaits (waiting p) = true
+statusWaits (woken p) = false
+statusWaits (holding p) = false
 
 -- holding, or its wake under way
-abbrev pub hasTurn : Status → Bool
-hasTurn off = false
-hasTurn (waiting p) = false
-hasTurn (woken p) = true
-hasTurn (holding p) = true
+abbrev pub statusHasTurn : Status → Bool
+statusHasTurn off = false
+statusHasTurn (waiting p) = false
+statusHasTurn (woken p) = true
+statusHasTurn (holding p) = true
 
 -- h is the one lane that holds or is being woken after these entries
 pub record OnlyTurn (es : List Entry) (h : ℕ) : Type 0 where
-  pub has : hasTurn (status h off es) ≡ true
-  pub only : (j : ℕ) → hasTurn (status j off es) ≡ true → j ≡ h
+  pub has : statusHasTurn (status h off es) ≡ true
+  pub only : (j : ℕ) → statusHasTurn (status j off es) ≡ true → j ≡ h
 
 -- the call by which lane h goes on: "03 while the wake is under way; 04 with count 0 by a holder of purpose 0 or 1; 09 by one of purpose 2"
 abbrev pub release : ℕ → Purpose → CallBytes
@@ -158,21 +158,21 @@ pub record Handed : Type 0 where
   pub place : ℕ
 
 -- an accepted 0A, with its lane and count
-pub record Entered : Type 0 where
+pub record OrderedEntry : Type 0 where
   pub lane : ℕ
   pub count : ℕ
 
 -- the count of lane r among the accepted 0A since the last completed ordered call
-unfoldable pub countFor : List Entered → ℕ → ℕ
+unfoldable pub countFor : List OrderedEntry → ℕ → ℕ
 countFor [] r = 0
 countFor (n ∷ ns) r = cond (eqb (n .lane) r) (n .count) (countFor ns r)
 
 -- "to each lane r, from lane 0 up, as many places as r's count, from the pointer before plus the counts of lanes below r"
-unfoldable pub shares : List Entered → ℕ → ℕ → ℕ → List Grant
+unfoldable pub shares : List OrderedEntry → ℕ → ℕ → ℕ → List Grant
 shares ns r from zero = []
 shares ns r from (suc more) = record { lane = r; from = from; count = countFor ns r } ∷ shares ns (suc r) (from + countFor ns r) more
 
-abbrev pub enteredBy : Entry → Entered
+abbrev pub enteredBy : Entry → OrderedEntry
 enteredBy e = record { lane = e .lane; count = e .count }
 
 -- the 0A that completes an ordered call: its answer has values, those of the others have none
@@ -180,21 +180,21 @@ abbrev pub completes : Entry → Bool
 completes e = isAccepted 0x0A e && (eqb (e .said .number) 0x0A && hasValues e)
 
 -- the accepted 0A after one more entry
-abbrev pub enteredNext : List Entered → Entry → List Entered
+abbrev pub enteredNext : List OrderedEntry → Entry → List OrderedEntry
 enteredNext ns e = cond (completes e) [] (cond (isAccepted 0x0A e) (enteredBy e ∷ ns) ns)
 
 -- "An accepted 04 hands out its region's places, rising, to its lane. The 0A that completes an ordered call hands out .."; n is N
-abbrev pub grantsBy : ℕ → List Entered → Entry → List Grant
+abbrev pub grantsBy : ℕ → List OrderedEntry → Entry → List Grant
 grantsBy n ns e =
     cond (isAccepted 0x04 e) (record { lane = e .lane; from = value 0 e; count = e .count } ∷ [])
     (cond (completes e) (shares (enteredBy e ∷ ns) 0 (value 0 e) n) [])
 
 -- the accepted 0A after a list of entries
-unfoldable pub enteredAfter : List Entered → List Entry → List Entered
+unfoldable pub enteredAfter : List OrderedEntry → List Entry → List OrderedEntry
 enteredAfter ns [] = ns
 enteredAfter ns (e ∷ es) = enteredAfter (enteredNext ns e) es
 
-unfoldable pub grants : ℕ → List Entered → List Entry → List Grant
+unfoldable pub grants : ℕ → List OrderedEntry → List Entry → List Grant
 grants n ns [] = []
 grants n ns (e ∷ es) = grantsBy n ns e ++ grants n (enteredNext ns e) es
 
@@ -276,9 +276,9 @@ module _ (search : Search) (book : List ℕ) where
     pub waits-end : (early later rest : List CallBytes) (told : CallBytes) (i : ℕ) → calls ≡ (early ++ told ∷ []) ++ (later ++ rest)
         → tellsToWait i (entryAfter early told) ≡ true → WaitEnds i (early ++ told ∷ []) later
     -- at each point of the list, while any lane waits
-    pub one-turn : (early rest : List CallBytes) (i : ℕ) → calls ≡ early ++ rest → isWaiting (status i off (entriesOf early)) ≡ true → OneTurn early
+    pub one-turn : (early rest : List CallBytes) (i : ℕ) → calls ≡ early ++ rest → statusWaits (status i off (entriesOf early)) ≡ true → OneTurn early
     -- at each point of the list, of each lane that holds or has its wake under way
-    pub goes-on : (early rest : List CallBytes) (h : ℕ) → calls ≡ early ++ rest → hasTurn (status h off (entriesOf early)) ≡ true → NextAccepted early h
+    pub goes-on : (early rest : List CallBytes) (h : ℕ) → calls ≡ early ++ rest → statusHasTurn (status h off (entriesOf early)) ≡ true → NextAccepted early h
     -- from an opening, seek or change of view to the next of these or the list's end
     pub in-order : (early later rest : List CallBytes) (first : CallBytes) → calls ≡ (early ++ first ∷ []) ++ (later ++ rest)
         → isReset (entryAfter early first) ≡ true → count isReset (entriesAfter (early ++ first ∷ []) later) ≡ 0

@@ -37,9 +37,9 @@ use Rattle.steps.proofs.Lowest.{Decided, accepted, decided, refused}
 use Rattle.steps.proofs.Edges.{free-wakes, set-down, take-region}
 use Rattle.steps.proofs.Release.{raised-up}
 use Rattle.steps.proofs.Chains.{atLane, enter-chain, free-chain, look-chain, open-chain, put-chain, read-chain, receive-chain, take-chain, want-chain, write-chain}
-use Rattle.sheet_run.specs.Run.{run, runOn}
-use Rattle.sheet_run.specs.Print.{answerLines, answerWords, decimalIn, linebook, words}
-use Rattle.edges.specs.Edges.{Alone, Entered, Holder, OtherEdges, Release, StarredEdges, Waits, answerTo, enter0, enter1, enter2, isSound}
+use Rattle.printout.specs.Run.{run, runOn}
+use Rattle.printout.specs.Print.{answerLines, answerWords, decimalIn, linebook, words}
+use Rattle.edges.specs.Edges.{Alone, EnteredInOrder, Holder, OtherEdges, Release, StarredEdges, Waits, answerTo, enter0, enter1, enter2, isSound}
 
 -- ---- phases and answers
 turn-of : (y : Phase) → isUp y ≡ true → isWaiting y ≡ false → hasTurn y ≡ true
@@ -169,27 +169,27 @@ every-5 x H fourth only =
     release x 5 (omega arith) H 4 (omega arith) fourth (λ a n. only a (up-waits x 5 (omega arith) H a (n .inside) (n .up)))
 
 -- ---- the ordered call, in each order of entry
-order-012 : Entered enter0 enter1 enter2
+order-012 : EnteredInOrder enter0 enter1 enter2
 unfolding blockRecord inOrder positionOf viewOk sound started stepBy callsBy afterBy
 order-012 = record { answers = refl; lanes = refl; pointer = refl; sound = refl }
 
-order-021 : Entered enter0 enter2 enter1
+order-021 : EnteredInOrder enter0 enter2 enter1
 unfolding blockRecord inOrder positionOf viewOk sound started stepBy callsBy afterBy
 order-021 = record { answers = refl; lanes = refl; pointer = refl; sound = refl }
 
-order-102 : Entered enter1 enter0 enter2
+order-102 : EnteredInOrder enter1 enter0 enter2
 unfolding blockRecord inOrder positionOf viewOk sound started stepBy callsBy afterBy
 order-102 = record { answers = refl; lanes = refl; pointer = refl; sound = refl }
 
-order-120 : Entered enter1 enter2 enter0
+order-120 : EnteredInOrder enter1 enter2 enter0
 unfolding blockRecord inOrder positionOf viewOk sound started stepBy callsBy afterBy
 order-120 = record { answers = refl; lanes = refl; pointer = refl; sound = refl }
 
-order-201 : Entered enter2 enter0 enter1
+order-201 : EnteredInOrder enter2 enter0 enter1
 unfolding blockRecord inOrder positionOf viewOk sound started stepBy callsBy afterBy
 order-201 = record { answers = refl; lanes = refl; pointer = refl; sound = refl }
 
-order-210 : Entered enter2 enter1 enter0
+order-210 : EnteredInOrder enter2 enter1 enter0
 unfolding blockRecord inOrder positionOf viewOk sound started stepBy callsBy afterBy
 order-210 = record { answers = refl; lanes = refl; pointer = refl; sound = refl }
 

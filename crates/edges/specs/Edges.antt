@@ -22,8 +22,8 @@ use Rattle.steps.specs.Effects.{purposeOf, writing}
 use Rattle.steps.specs.Refusals.{field, laneOf, namesLane}
 use Rattle.steps.specs.Step.{afterCalls, callBytes, callEvent, calls}
 use Rattle.steps.specs.declared.Answer.{Answer}
-use Rattle.sheet_run.specs.Print.{linebook}
-use Rattle.sheet_run.specs.Text.{ascii}
+use Rattle.printout.specs.Print.{linebook}
+use Rattle.printout.specs.Text.{ascii}
 
 -- ---- answers, and the states that lists of events lead to
 abbrev pub answerTo : State → Event → Answer
@@ -136,7 +136,7 @@ abbrev pub writers : List Phase
 writers = Phase.BusyWriting 2 (place 10) ∷ Phase.Idle ∷ Phase.BusyWriting 3 (place 12) ∷ []
 
 -- the three entries in one order: the third completes the call
-pub record Entered (a b c : Event) : Type 0 where
+pub record EnteredInOrder (a b c : Event) : Type 0 where
   pub answers : answersTo pointer10 (a ∷ b ∷ c ∷ []) ≡ Answer.Gathered ∷ Answer.Gathered ∷ Answer.Ordered (place 10) 5 ∷ []
   pub lanes : phasesOf (afterEvents pointer10 (a ∷ b ∷ c ∷ [])) (0 ∷ 1 ∷ 2 ∷ []) ≡ writers
   pub pointer : afterEvents pointer10 (a ∷ b ∷ c ∷ []) .line .pointer ≡ place 15
@@ -196,12 +196,12 @@ pub record StarredEdges : Type 0 where
   -- "Plain view, capacity 120, N = 3, pointer 10, lanes 0, 1, 2 enter 2, 0, 3 in any order: starts 10, 12, 12, pointer 15"
   pub view-10 : pointer10 .line .view ≡ plainView
   pub pointer-10 : pointer10 .line .pointer ≡ place 10
-  pub order-012 : Entered enter0 enter1 enter2
-  pub order-021 : Entered enter0 enter2 enter1
-  pub order-102 : Entered enter1 enter0 enter2
-  pub order-120 : Entered enter1 enter2 enter0
-  pub order-201 : Entered enter2 enter0 enter1
-  pub order-210 : Entered enter2 enter1 enter0
+  pub order-012 : EnteredInOrder enter0 enter1 enter2
+  pub order-021 : EnteredInOrder enter0 enter2 enter1
+  pub order-102 : EnteredInOrder enter1 enter0 enter2
+  pub order-120 : EnteredInOrder enter1 enter2 enter0
+  pub order-201 : EnteredInOrder enter2 enter0 enter1
+  pub order-210 : EnteredInOrder enter2 enter1 enter0
   pub starts : map startOf (0 ∷ 1 ∷ 2 ∷ []) ≡ 10 ∷ 12 ∷ 12 ∷ []
   pub from-starts : map (λ (r : ℕ). writing (getD counts r 0) (place (startOf r))) (0 ∷ 1 ∷ 2 ∷ []) ≡ writers
 

@@ -5,16 +5,16 @@ use mathlib.Core.List.{List}
 use lib.Dec.{ltb}
 use Rattle.event.specs.ReadWrite.{readAt}
 use Rattle.event.specs.declared.Reading.{Reading}
-use Rattle.print.specs.declared.Printed.{Printed}
+use Rattle.answer_text.specs.declared.Printed.{Printed}
 use Rattle.run_text.specs.RunText.{mostText}
 
 -- the greatest number of 64 bits, which is no length
 abbrev pub noLength : ℕ
 noLength = 18446744073709551615
 
-abbrev pub lengthOf : Printed → ℕ
-lengthOf (Printed.Length n) = n
-lengthOf Printed.TooShort = noLength
+abbrev pub lengthPrinted : Printed → ℕ
+lengthPrinted (Printed.Length n) = n
+lengthPrinted Printed.TooShort = noLength
 
 abbrev pub textBound : ℕ → ℕ
 textBound n = cond (ltb 658812288346769696 n) noLength (mostText n)

@@ -2,21 +2,21 @@
 ghost use mathlib.Core.Bool.{true};
 ghost use mathlib.Core.Path.{_≡_};
 ghost use lib.ListN.{length};
-ghost use Rattle.embed.specs.Embedded.{eventLength, eventRefusal, lengthOf, textBound};
+ghost use Rattle.embed.specs.Embedded.{eventLength, eventRefusal, lengthPrinted, textBound};
 ghost use Rattle.steps.specs.State.{fresh};
-ghost use Rattle.run.specs.Runs.{leftBy, printedBy, textFits, textIn};
+ghost use Rattle.run.specs.Runs.{leftByRun, printedBy, textFits, textIn};
 use event::Cursor;
 use event::Reading;
 use line::Line;
-use print::Printed;
+use answer_text::Printed;
 use run::run;
 
 // Runs a whole sheet from an unopened line over a lent book; the printed lines stand at the start of `text`. The answer is their length,
 // or the greatest number where `text` may be too short, with nothing altered.
 #[no_mangle]
 pub extern "C" fn gudlemi_run(sheet: &[u8], book: &mut [u8], text: &mut [u8]) -> usize
-    ensures is { λ r. ⌜ r ≡ lengthOf (printedBy (fresh (now (book .entry))) (now (sheet .entry)) (now (text .entry))) ⌝ }
-    ensures book { λ r. ⌜ now (book .exit) ≡ leftBy (fresh (now (book .entry))) (now (sheet .entry)) (now (text .entry)) .book ⌝ }
+    ensures is { λ r. ⌜ r ≡ lengthPrinted (printedBy (fresh (now (book .entry))) (now (sheet .entry)) (now (text .entry))) ⌝ }
+    ensures book { λ r. ⌜ now (book .exit) ≡ leftByRun (fresh (now (book .entry))) (now (sheet .entry)) (now (text .entry)) .book ⌝ }
     ensures fits { λ r. ⌜ textFits (printedBy (fresh (now (book .entry))) (now (sheet .entry)) (now (text .entry))) (length (now (text .entry))) ≡ true ⌝ }
     ensures text { λ r. ⌜ now (text .exit) ≡ textIn (fresh (now (book .entry))) (now (sheet .entry)) (now (text .entry)) ⌝ }
 {

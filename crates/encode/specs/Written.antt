@@ -4,12 +4,12 @@ use mathlib.Core.Bool.{cond}
 use mathlib.Core.List.{List, _∷_}
 use Rattle.event.specs.Event.{bodyLength, fieldLengths, fieldsOf, isListed, kindOf}
 use Rattle.event.specs.declared.Event.{Event}
-use Rattle.pack.specs.Put.{putAt}
+use Rattle.encode_fields.specs.Put.{putFields}
 
 -- the length of an event of a listed kind, else 0
-abbrev pub lengthOf : Event → ℕ
-lengthOf e = cond (isListed (kindOf e)) (1 + bodyLength (kindOf e)) 0
+abbrev pub lengthOfEvent : Event → ℕ
+lengthOfEvent e = cond (isListed (kindOf e)) (1 + bodyLength (kindOf e)) 0
 
 -- the buffer with an event of a listed kind at its start, else as it was
 unfoldable pub withEvent : List ℕ → Event → List ℕ
-withEvent buffer e = cond (isListed (kindOf e)) (putAt (1 ∷ fieldLengths (kindOf e)) (kindOf e ∷ fieldsOf e) buffer 0) buffer
+withEvent buffer e = cond (isListed (kindOf e)) (putFields (1 ∷ fieldLengths (kindOf e)) (kindOf e ∷ fieldsOf e) buffer 0) buffer

@@ -5,11 +5,11 @@ ghost use mathlib.Core.Path.{_≡_};
 ghost use Prim.Native.Nat.{ℕ, _≤_};
 ghost use lib.ListN.{length};
 ghost use Rattle.event.specs.ReadWrite.{writingOf, writtenTo};
-ghost use Rattle.encode.specs.Written.{lengthOf, withEvent};
+ghost use Rattle.encode.specs.Written.{lengthOfEvent, withEvent};
 
 // The length of an event of a listed kind, else 0.
 fn length_of(event: Event) -> usize
-    ensures { λ r. ⌜ r ≡ lengthOf event ⌝ }
+    ensures { λ r. ⌜ r ≡ lengthOfEvent event ⌝ }
 {
     match event {
         Event::Open { .. } => 6,
@@ -30,35 +30,35 @@ fn length_of(event: Event) -> usize
 
 // An event of a listed kind stored at the buffer's start; an unlisted one leaves it.
 fn put_event(event: Event, buffer: &mut [u8])
-    requires { ⌜ lengthOf event ≤ length (now buffer) ⌝ }
+    requires { ⌜ lengthOfEvent event ≤ length (now buffer) ⌝ }
     ensures { λ r. ⌜ now (buffer .exit) ≡ withEvent (now (buffer .entry)) event ⌝ }
 {
     match event {
-        Event::Open { lanes, capacity } => pack::put_head_u32(buffer, 0x01, lanes, capacity),
-        Event::Want { lane, purpose } => pack::put_head_u8(buffer, 0x02, lane, purpose),
-        Event::Receive { lane } => pack::put_head(buffer, 0x03, lane),
-        Event::Take { lane, count } => pack::put_head_u16(buffer, 0x04, lane, count),
-        Event::Write { lane, content } => pack::put_head_u64(buffer, 0x05, lane, content),
-        Event::Read { lane } => pack::put_head(buffer, 0x06, lane),
+        Event::Open { lanes, capacity } => encode_fields::put_head_u32(buffer, 0x01, lanes, capacity),
+        Event::Want { lane, purpose } => encode_fields::put_head_u8(buffer, 0x02, lane, purpose),
+        Event::Receive { lane } => encode_fields::put_head(buffer, 0x03, lane),
+        Event::Take { lane, count } => encode_fields::put_head_u16(buffer, 0x04, lane, count),
+        Event::Write { lane, content } => encode_fields::put_head_u64(buffer, 0x05, lane, content),
+        Event::Read { lane } => encode_fields::put_head(buffer, 0x06, lane),
         Event::Put {
             lane,
             place,
             content,
-        } => pack::write_put(buffer, lane, place.0, content),
-        Event::Look { lane, place } => pack::put_head_u32(buffer, 0x08, lane, place.0),
-        Event::Free { lane } => pack::put_head(buffer, 0x09, lane),
-        Event::Enter { lane, count } => pack::put_head_u16(buffer, 0x0A, lane, count),
+        } => encode_fields::write_put(buffer, lane, place.0, content),
+        Event::Look { lane, place } => encode_fields::put_head_u32(buffer, 0x08, lane, place.0),
+        Event::Free { lane } => encode_fields::put_head(buffer, 0x09, lane),
+        Event::Enter { lane, count } => encode_fields::put_head_u16(buffer, 0x0A, lane, count),
         Event::View {
             displacement,
             extent,
             used,
             blocks,
-        } => pack::write_view(buffer, displacement, extent, used, blocks),
-        Event::Seek { whence, offset } => pack::put_head_u32(
+        } => encode_fields::write_view(buffer, displacement, extent, used, blocks),
+        Event::Seek { whence, offset } => encode_fields::put_head_u32(
             buffer,
             0x0C,
             whence,
-            pack::unsigned_of(offset),
+            encode_fields::unsigned_of(offset),
         ),
         Event::Unlisted => {}
     }

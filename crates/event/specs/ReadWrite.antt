@@ -23,15 +23,15 @@ readAt sheet at =
 
 -- ---- writing
 -- the buffer is long enough for the event
-abbrev pub hasRoom : List ℕ → Event → Bool
-hasRoom buffer e = leb (length (eventBytes e)) (length buffer)
+abbrev pub roomForEvent : List ℕ → Event → Bool
+roomForEvent buffer e = leb (length (eventBytes e)) (length buffer)
 
 unfoldable pub writingOf : List ℕ → Event → Writing
-writingOf buffer e = cond (isListed (kindOf e)) (cond (hasRoom buffer e) (Writing.Length (length (eventBytes e))) (Writing.Refused 3)) (Writing.Refused 2)
+writingOf buffer e = cond (isListed (kindOf e)) (cond (roomForEvent buffer e) (Writing.Length (length (eventBytes e))) (Writing.Refused 3)) (Writing.Refused 2)
 
 -- the buffer as writing leaves it: the event's bytes and what stood past them, or after a refusal all as it was
 unfoldable pub writtenTo : List ℕ → Event → List ℕ
-writtenTo buffer e = cond (isListed (kindOf e)) (cond (hasRoom buffer e) (eventBytes e ++ drop (length (eventBytes e)) buffer) buffer) buffer
+writtenTo buffer e = cond (isListed (kindOf e)) (cond (roomForEvent buffer e) (eventBytes e ++ drop (length (eventBytes e)) buffer) buffer) buffer
 
 -- ---- what the answers say: document 01's number (an event's kind, a refusal's number; the end has none) and the values
 abbrev pub readingNumber : Reading → ℕ

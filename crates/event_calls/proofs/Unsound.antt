@@ -17,15 +17,15 @@ use Rattle.steps.specs.Meets.{Meets, stateOf}
 use Rattle.steps.specs.Step.{callEvent, refuse, stepBy}
 use Rattle.steps.proofs.Chains.{cut-chain, unlisted-chain, whenSound}
 use Rattle.steps.specs.declared.Outcome.{Outcome}
-use Rattle.refusals.specs.Refused.{refused}
+use Rattle.refuse.specs.Refused.{refusedOutcome}
 use Rattle.event_calls.specs.Refused.{refusedBytes}
-use Rattle.refusals.proofs.First.{meets-refused}
+use Rattle.refuse.proofs.First.{meets-refused}
 
 unsound-step : (l : Line) (book : List ℕ) (c : Call) → sound l (length book) ≡ false → stepBy nextLane (stateOf l book) c ≡ refuse 1 (stateOf l book)
 unfolding stepBy
 unsound-step l book c e = rw e
 
-pub unsound : (l : Line) (book : List ℕ) (c : Call) (o : Outcome) → sound l (length book) ≡ false → o ≡ refused l 1 → Meets (stepBy nextLane (stateOf l book) c) o book
+pub unsound : (l : Line) (book : List ℕ) (c : Call) (o : Outcome) → sound l (length book) ≡ false → o ≡ refusedOutcome l 1 → Meets (stepBy nextLane (stateOf l book) c) o book
 unsound l book c o e f = meets-refused l book 1 (unsound-step l book c e) f
 
 -- ---- a call whose bytes give no event

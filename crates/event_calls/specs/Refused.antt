@@ -4,7 +4,7 @@ use mathlib.Core.Bool.{cond}
 use Rattle.line.specs.declared.Line.{Line}
 use Rattle.line.specs.Sound.{sound}
 use Rattle.steps.specs.declared.Outcome.{Outcome}
-use Rattle.refusals.specs.Refused.{refused}
+use Rattle.refuse.specs.Refused.{refusedOutcome}
 
 abbrev pub refusedBytes : Line → ℕ → ℕ → Outcome
-refusedBytes l buffer k = cond (sound l buffer) (refused l k) (refused l 1)
+refusedBytes l buffer k = cond (sound l buffer) (refusedOutcome l k) (refusedOutcome l 1)

@@ -16,7 +16,7 @@ use lane_calls::decide;
 use lane_calls::scope_of;
 use line::Line;
 use line_calls::call_line;
-use refusals::refuse;
+use refuse::refuse;
 use soundness::is_sound;
 use steps::Outcome;
 

@@ -9,7 +9,7 @@ use Rattle.view.specs.declared.View.{View}
 use Rattle.event.specs.declared.Event.{Event}
 use Rattle.event.proofs.Event.{the-type}
 use Rattle.steps.specs.declared.Answer.{Answer}
-use Rattle.changes.specs.Change.{refused}
+use Rattle.changes.specs.Change.{refusedChange}
 use Rattle.changes.specs.declared.Seen.{Seen}
 use Rattle.lane_calls.specs.declared.Scope.{Scope}
 use Rattle.lane_calls.specs.Decided.{bookDecided, decidedAt, scopeOf}
@@ -37,7 +37,7 @@ no-lane Event.Unlisted h = refl
 pub a-lane : {X : Type 0} {i : ℕ} → Scope.Lane i ≡ Scope.Line → X
 a-lane h = let z : _≡_ {A = ℕ} 0 1 = cc in absurd (omega arith)
 
-pub none-decided : (s : Seen) (v : View) (flags book : List ℕ) (e : Event) → scopeOf e ≡ Scope.Line → refused s 2 ≡ decidedAt s v flags book e
+pub none-decided : (s : Seen) (v : View) (flags book : List ℕ) (e : Event) → scopeOf e ≡ Scope.Line → refusedChange s 2 ≡ decidedAt s v flags book e
 unfolding decidedAt
 none-decided s v flags book (Event.Open lanes capacity) h = refl
 none-decided s v flags book (Event.Want i purpose) h = a-lane h

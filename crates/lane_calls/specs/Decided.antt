@@ -4,11 +4,11 @@ use mathlib.Core.List.{List}
 use Rattle.view.specs.declared.View.{View}
 use Rattle.event.specs.declared.Event.{Event}
 use Rattle.steps.specs.declared.Answer.{Answer}
-use Rattle.changes.specs.Change.{atLane, refused}
+use Rattle.changes.specs.Change.{atLane, refusedChange}
 use Rattle.changes.specs.declared.Change.{Change}
 use Rattle.changes.specs.declared.Seen.{Seen}
-use Rattle.turns.specs.Turns.{freeAt, receiveAt, takeAt, wantAt}
-use Rattle.records.specs.Records.{bookAfter, lookAt, putAt, readAt, writeAt}
+use Rattle.turn_calls.specs.Turns.{freeChange, receiveChange, takeChange, wantChange}
+use Rattle.record_calls.specs.Records.{bookAfter, lookChange, putChange, readChange, writeChange}
 use Rattle.lane_calls.specs.declared.Scope.{Scope}
 
 abbrev pub scopeOf : Event → Scope
@@ -28,19 +28,19 @@ scopeOf Event.Unlisted = Scope.Line
 
 -- the change past the tests of the lane; of a call of another kind nothing is said by this: no law below speaks of it
 unfoldable pub decidedAt : Seen → View → List ℕ → List ℕ → Event → Change
-decidedAt s v flags book (Event.Open lanes capacity) = refused s 2
-decidedAt s v flags book (Event.Want i purpose) = wantAt s flags i purpose
-decidedAt s v flags book (Event.Receive i) = receiveAt s
-decidedAt s v flags book (Event.Take i c) = takeAt s v flags i c
-decidedAt s v flags book (Event.Write i content) = writeAt s v
-decidedAt s v flags book (Event.Read i) = readAt s v book
-decidedAt s v flags book (Event.Put i k content) = putAt s v k
-decidedAt s v flags book (Event.Look i k) = lookAt s v book k
-decidedAt s v flags book (Event.Free i) = freeAt s flags i
-decidedAt s v flags book (Event.Enter i c) = refused s 2
-decidedAt s v flags book (Event.View displacement extent used blocks) = refused s 2
-decidedAt s v flags book (Event.Seek whence offset) = refused s 2
-decidedAt s v flags book Event.Unlisted = refused s 2
+decidedAt s v flags book (Event.Open lanes capacity) = refusedChange s 2
+decidedAt s v flags book (Event.Want i purpose) = wantChange s flags i purpose
+decidedAt s v flags book (Event.Receive i) = receiveChange s
+decidedAt s v flags book (Event.Take i c) = takeChange s v flags i c
+decidedAt s v flags book (Event.Write i content) = writeChange s v
+decidedAt s v flags book (Event.Read i) = readChange s v book
+decidedAt s v flags book (Event.Put i k content) = putChange s v k
+decidedAt s v flags book (Event.Look i k) = lookChange s v book k
+decidedAt s v flags book (Event.Free i) = freeChange s flags i
+decidedAt s v flags book (Event.Enter i c) = refusedChange s 2
+decidedAt s v flags book (Event.View displacement extent used blocks) = refusedChange s 2
+decidedAt s v flags book (Event.Seek whence offset) = refusedChange s 2
+decidedAt s v flags book Event.Unlisted = refusedChange s 2
 
 -- the change of a call of lane i: 4 and 8 come first, whatever the kind
 unfoldable pub decided : Seen → ℕ → View → List ℕ → List ℕ → Event → Change

@@ -43,28 +43,28 @@ fn decide_at(seen: Seen, view: View, flags: &[u8], book: &mut [u8], event: Event
     ensures book { λ r. ⌜ now (book .exit) ≡ bookDecided event (now (book .entry)) (r .answer) ⌝ }
 {
     match event {
-        Event::Want { lane, purpose } => turns::want(seen, flags, lane, purpose),
-        Event::Receive { lane: _ } => turns::receive(seen),
-        Event::Take { lane, count } => turns::take(seen, view, flags, lane, count),
+        Event::Want { lane, purpose } => turn_calls::want(seen, flags, lane, purpose),
+        Event::Receive { lane: _ } => turn_calls::receive(seen),
+        Event::Take { lane, count } => turn_calls::take(seen, view, flags, lane, count),
         Event::Write { lane: _, content } => {
-            let change = records::write(seen, view);
+            let change = record_calls::write(seen, view);
             let answer = change.answer;
-            records::store(book, answer, content);
+            record_calls::store(book, answer, content);
             change
         }
-        Event::Read { lane: _ } => records::read(seen, view, book),
+        Event::Read { lane: _ } => record_calls::read(seen, view, book),
         Event::Put {
             lane: _,
             place,
             content,
         } => {
-            let change = records::put(seen, view, place);
+            let change = record_calls::put(seen, view, place);
             let answer = change.answer;
-            records::store(book, answer, content);
+            record_calls::store(book, answer, content);
             change
         }
-        Event::Look { lane: _, place } => records::look(seen, view, book, place),
-        Event::Free { lane } => turns::free(seen, flags, lane),
+        Event::Look { lane: _, place } => record_calls::look(seen, view, book, place),
+        Event::Free { lane } => turn_calls::free(seen, flags, lane),
         _ => refuse(seen, 2),
     }
 }

@@ -23,7 +23,7 @@ use Rattle.line.proofs.Phases.{apart-idle, apart-sym, idle-is, isUp, no
 
 -- ---- the numbers of an open line
 pub record OpenNumbers (l : Line) (buffer : ℕ) : Type 0 where
-  pub few : l .lanes ≤ mostLanes
+  pub lanes-fit : l .lanes ≤ mostLanes
   pub least : 8 ≤ l .capacity
   pub most : l .capacity ≤ 65536
   pub sized : l .size ≤ l .capacity
@@ -47,7 +47,7 @@ module _ (l : Line) (buffer : ℕ) where
   unfolding tests
   open-numbers e =
       record {
-        few = leb-true (l .lanes) mostLanes (every-nth tests 0 e);
+        lanes-fit = leb-true (l .lanes) mostLanes (every-nth tests 0 e);
         least = leb-true 8 (l .capacity) (every-nth tests 1 e);
         most = leb-true (l .capacity) 65536 (every-nth tests 2 e);
         sized = leb-true (l .size) (l .capacity) (every-nth tests 3 e);
@@ -58,7 +58,7 @@ module _ (l : Line) (buffer : ℕ) where
 
   pub numbers-open : OpenNumbers l buffer → openNumbers l buffer ≡ true
   numbers-open n =
-      rw (le-leb (l .lanes) mostLanes (n .few), le-leb 8 (l .capacity) (n .least), le-leb (l .capacity) 65536 (n .most), le-leb (l .size) (l .capacity) (n .sized), le-leb (l .pointer .0) mostPointer (n .reach), n .view, le-leb (l .capacity) buffer (n .held))
+      rw (le-leb (l .lanes) mostLanes (n .lanes-fit), le-leb 8 (l .capacity) (n .least), le-leb (l .capacity) 65536 (n .most), le-leb (l .size) (l .capacity) (n .sized), le-leb (l .pointer .0) mostPointer (n .reach), n .view, le-leb (l .capacity) buffer (n .held))
 
   -- of a line with lanes
   pub when-open : 0 < l .lanes → numbersOk l buffer ≡ true → OpenNumbers l buffer
@@ -72,7 +72,7 @@ module _ (l : Line) (buffer : ℕ) where
 pub record Base (l : Line) : Type 0 where
   pub long : length (l .lane) ≡ mostLanes
   pub blocks : length (l .view .block) ≡ 8
-  pub few : l .lanes ≤ mostLanes
+  pub lanes-fit : l .lanes ≤ mostLanes
   pub flags : l .flag ≡ map (on flagFor) (l .lane)
   pub regions : all (on (regionOk l)) (l .lane) ≡ true
   pub disjoint : (i j : ℕ) → i ≢ j → apart (phaseAt l i) (phaseAt l j) ≡ true
@@ -101,7 +101,7 @@ pub record Good (l : Line) (buffer : ℕ) : Type 0 where
 -- ---- from the test to the facts
 few-of : (l : Line) (buffer : ℕ) → numbersOk l buffer ≡ true → l .lanes ≤ mostLanes
 few-of l buffer e =
-    elim (decLt 0 (l .lanes)) [ yes h ↦ when-open l buffer h e .few | no h ↦ omega arith ]
+    elim (decLt 0 (l .lanes)) [ yes h ↦ when-open l buffer h e .lanes-fit | no h ↦ omega arith ]
 
 -- the flags that are 1 are those of the lanes that are up
 flags-up : (l : Line) → l .flag ≡ map (on flagFor) (l .lane) → count (eqb 1) (l .flag) ≡ count (on isUp) (l .lane)
@@ -155,7 +155,7 @@ good-of l buffer shape e =
                 record {
                   long = shape .lanes-length;
                   blocks = shape .blocks-length;
-                  few = few-of l buffer (every-nth bs 0 e);
+                  lanes-fit = few-of l buffer (every-nth bs 0 e);
                   flags = f;
                   regions = and-left (all (on (regionOk l)) (l .lane)) (pairwise apartLanes (l .lane)) b;
                   disjoint = pairwise-at apartLanes idleLane (λ x y. apart-sym (x .phase) (y .phase)) (λ x. apart-idle (x .phase)) (l .lane) (and-right (all (on (regionOk l)) (l .lane)) (pairwise apartLanes (l .lane)) b);

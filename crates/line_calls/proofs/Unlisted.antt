@@ -18,8 +18,8 @@ use Rattle.steps.specs.Meets.{Meets, stateOf}
 use Rattle.steps.specs.Step.{callEvent}
 use Rattle.steps.specs.declared.Outcome.{Outcome}
 use Rattle.steps.proofs.Chains.{unlisted-chain}
-use Rattle.refusals.specs.Refused.{refused}
-use Rattle.refusals.proofs.First.{meets-refused, when-sound}
+use Rattle.refuse.specs.Refused.{refusedOutcome}
+use Rattle.refuse.proofs.First.{meets-refused, when-sound}
 
 -- the tags of the arms before it are 0, 9, 10 and 11
 abbrev rest : List ℕ
@@ -40,5 +40,5 @@ unlisted (Event.View displacement extent used blocks) t h = absurd (miss rest 10
 unlisted (Event.Seek whence offset) t h = absurd (miss rest 11 tt t)
 unlisted Event.Unlisted t h = refl
 
-pub refused-2 : (l : Line) (book : List ℕ) (o : Outcome) → sound l (length book) ≡ true → o ≡ refused l 2 → Meets (callEvent (stateOf l book) Event.Unlisted) o book
+pub refused-2 : (l : Line) (book : List ℕ) (o : Outcome) → sound l (length book) ≡ true → o ≡ refusedOutcome l 2 → Meets (callEvent (stateOf l book) Event.Unlisted) o book
 refused-2 l book o ok f = meets-refused l book 2 (unlisted-chain nextLane (stateOf l book) ∙ when-sound l book ok _) f

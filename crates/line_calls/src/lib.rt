@@ -9,7 +9,7 @@ ghost use Rattle.steps.specs.Meets.{Meets, stateOf};
 ghost use Rattle.steps.specs.Step.{callEvent};
 use event::Event;
 use line::Line;
-use refusals::refuse;
+use refuse::refuse;
 use steps::Outcome;
 
 // The call of an event of these kinds.
@@ -18,15 +18,15 @@ pub fn call_line(line: Line, book: &mut [u8], event: Event) -> Outcome
     ensures { λ r. ⌜ Meets (callEvent (stateOf line (now (book .entry))) event) r (now (book .exit)) ⌝ }
 {
     match event {
-        Event::Open { lanes, capacity } => setup::open(line, book, lanes, capacity),
-        Event::Enter { lane, count } => ordered::enter(line, book, lane, count),
+        Event::Open { lanes, capacity } => setup_calls::open(line, book, lanes, capacity),
+        Event::Enter { lane, count } => ordered_calls::enter(line, book, lane, count),
         Event::View {
             displacement,
             extent,
             used,
             blocks,
-        } => { setup::set_view(line, book, displacement, extent, used, blocks) }
-        Event::Seek { whence, offset } => setup::seek(line, book, whence, offset),
+        } => { setup_calls::set_view(line, book, displacement, extent, used, blocks) }
+        Event::Seek { whence, offset } => setup_calls::seek(line, book, whence, offset),
         _ => refuse(line, 2),
     }
 }

@@ -1,9 +1,9 @@
-// linebook: a sheet from standard input, its text to standard output; what it prints is decided by `whole_sheet::print_sheet`.
+// linebook: a sheet from standard input, its text to standard output; what it prints is decided by `linebook_text::print_sheet`.
 ghost use Prim.Native.Nat.{_≤_};
 ghost use mathlib.Core.Path.{_≡_};
 ghost use lib.ListN.{length};
-use print::Printed;
-use whole_sheet::print_sheet;
+use answer_text::Printed;
+use linebook_text::print_sheet;
 
 // One byte more than the longest sheet is read, to tell a longer one.
 const MOST_READ: usize = 65537;

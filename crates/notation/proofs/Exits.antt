@@ -9,8 +9,8 @@ use lib.ListN.{length, take}
 use lib.Seq.{length-take-le}
 use borrow.Author.Tests.{le-ltb, lt-ltb, ltb-false}
 use Rattle.lists.proofs.Tests.{by-test}
-use Rattle.digits.specs.Stored.{Stored}
-use Rattle.notation.specs.Notation.{bytesOf, faultAt, faultOf, leftOf, mostText, parsedBy, parsedOf, spotOf, storedOf, storedTo}
+use Rattle.number_text.specs.Stored.{Stored}
+use Rattle.notation.specs.Notation.{notationBytes, faultAt, faultOf, leftOf, mostNotation, parsedBy, parsedOf, spotOf, storedOf, storedTo}
 use Rattle.notation.specs.declared.Fault.{Fault}
 use Rattle.notation.specs.declared.Parsed.{Parsed}
 
@@ -21,26 +21,26 @@ module _ (text out : List ℕ) where
   abbrev pub Parses : Parsed → List ℕ → Type 0
   Parses r after = (r ≡ parsedOf text (length out)) × (after ≡ leftOf text out)
 
-  pub no-room : length out < length (bytesOf text) → Stores Parsed.TooShort out
-  no-room h = rw (lt-ltb (length out) (length (bytesOf text)) h) (refl, refl)
+  pub no-room : length out < length (notationBytes text) → Stores Parsed.TooShort out
+  no-room h = rw (lt-ltb (length out) (length (notationBytes text)) h) (refl, refl)
 
-  pub with-room : length (bytesOf text) ≤ length out → (after : List ℕ) (n : ℕ) → Stored (bytesOf text) out 0 after n → Stores (Parsed.Length n) after
+  pub with-room : length (notationBytes text) ≤ length out → (after : List ℕ) (n : ℕ) → Stored (notationBytes text) out 0 after n → Stores (Parsed.Length n) after
   with-room h after n s =
-      let all : n ≡ length (bytesOf text) = omega (arith, s .ends) in
-      rw (le-ltb (length out) (length (bytesOf text)) h) (ap Parsed.Length all, s .bytes)
+      let all : n ≡ length (notationBytes text) = omega (arith, s .ends) in
+      rw (le-ltb (length out) (length (notationBytes text)) h) (ap Parsed.Length all, s .bytes)
 
-  pub too-long : mostText < length text → Parses Parsed.TooLong out
-  too-long h = rw (lt-ltb mostText (length text) h) (refl, refl)
+  pub too-long : mostNotation < length text → Parses Parsed.TooLong out
+  too-long h = rw (lt-ltb mostNotation (length text) h) (refl, refl)
 
-  module _ (h : length text ≤ mostText) where
+  module _ (h : length text ≤ mostNotation) where
     pub no-digit : (at : ℕ) → faultOf text ≡ Fault.NoDigit at → Parses (Parsed.NoDigit (spotOf (take at text))) out
-    no-digit at e = rw (le-ltb mostText (length text) h, e) (refl, refl)
+    no-digit at e = rw (le-ltb mostNotation (length text) h, e) (refl, refl)
 
     pub no-second : faultOf text ≡ Fault.NoSecond → Parses (Parsed.NoSecond (spotOf text)) out
-    no-second e = rw (le-ltb mostText (length text) h, e) (refl, refl)
+    no-second e = rw (le-ltb mostNotation (length text) h, e) (refl, refl)
 
     pub stores : faultOf text ≡ Fault.None → (r : Parsed) (after : List ℕ) → Stores r after → Parses r after
-    stores e r after s = rw (le-ltb mostText (length text) h, e) s
+    stores e r after s = rw (le-ltb mostNotation (length text) h, e) s
 
 -- a digit is missing at an index of the text
 pub fault-within : (f : Fault) (at n : ℕ) → f ≡ Fault.NoDigit at → faultAt f ≤ n → at ≤ n
@@ -61,9 +61,9 @@ same-count m n e = cc
 module _ (text : List ℕ) (room n : ℕ) where
   stored-fits : storedOf text room ≡ Parsed.Length n → n ≤ room
   stored-fits q =
-      by-test (ltb room (length (bytesOf text)))
+      by-test (ltb room (length (notationBytes text)))
       (λ t. clashes n (storedOf text room) q (inl (rw t)))
-      (λ f. let e = same-count (length (bytesOf text)) n (rw f at q) in omega (arith, e, ltb-false room (length (bytesOf text)) f))
+      (λ f. let e = same-count (length (notationBytes text)) n (rw f at q) in omega (arith, e, ltb-false room (length (notationBytes text)) f))
 
   by-fault : (f : Fault) → parsedBy text room f ≡ Parsed.Length n → n ≤ room
   by-fault (Fault.NoDigit at) q = let z : _≡_ {A = ℕ} 0 1 = cc in absurd (omega arith)
@@ -72,6 +72,6 @@ module _ (text : List ℕ) (room n : ℕ) where
 
   pub parsed-fits : parsedOf text room ≡ Parsed.Length n → n ≤ room
   parsed-fits q =
-      by-test (ltb mostText (length text))
+      by-test (ltb mostNotation (length text))
       (λ t. clashes n (parsedOf text room) q (inr (rw t)))
       (λ f. by-fault (faultOf text) (rw f at q))

@@ -7,7 +7,7 @@ use lib.ListN.{drop, getD, length, length-append}
 use borrow.Author.Tests.{eq-eqb, ne-eqb}
 use Rattle.lists.proofs.Loops.{drop-end}
 use Rattle.lists.proofs.Parts.{drop-more}
-use Rattle.notation.specs.Notation.{bytesFrom, faultFrom, madeOf, spotFrom, spotPast, stepOf}
+use Rattle.notation.specs.Notation.{bytesFrom, faultFrom, madeOf, spotFrom, spotPast, characterStep}
 use Rattle.notation.specs.declared.Fault.{Fault}
 use Rattle.notation.specs.declared.Spot.{Spot}
 use Rattle.notation.specs.declared.State.{State}
@@ -25,13 +25,13 @@ module _ (s : State) (l : List ℕ) (i : ℕ) where
   unfolding faultFrom
   fault-second h ne = rw (drop-end l i h, ne-eqb (s .high) 16 ne)
 
-  fault-next : i < length l → stepOf s (getD l i 0) .bad ≡ false
-      → faultFrom i s (drop i l) ≡ faultFrom (i + 1) (stepOf s (getD l i 0)) (drop (i + 1) l)
+  fault-next : i < length l → characterStep s (getD l i 0) .bad ≡ false
+      → faultFrom i s (drop i l) ≡ faultFrom (i + 1) (characterStep s (getD l i 0)) (drop (i + 1) l)
   unfolding faultFrom
   fault-next h bad = rw (drop-more l i 0 h, bad)
 
 -- with r the state after the character at i
-module _ (s : State) (l : List ℕ) (i : ℕ) (h : i < length l) (r : State) (e : r ≡ stepOf s (getD l i 0)) where
+module _ (s : State) (l : List ℕ) (i : ℕ) (h : i < length l) (r : State) (e : r ≡ characterStep s (getD l i 0)) where
   pub bytes-more : bytesFrom s (drop i l) ≡ madeOf r ++ bytesFrom r (drop (i + 1) l)
   unfolding bytesFrom
   bytes-more = rw (drop-more l i 0 h, e)
@@ -41,7 +41,7 @@ module _ (s : State) (l : List ℕ) (i : ℕ) (h : i < length l) (r : State) (e 
 
   pub fault-here : r .bad ≡ true → faultFrom i s (drop i l) ≡ Fault.NoDigit i
   unfolding faultFrom
-  fault-here t = let bad : stepOf s (getD l i 0) .bad ≡ true = sym (ap (λ (x : State). x .bad) e) ∙ t in rw (drop-more l i 0 h, bad)
+  fault-here t = let bad : characterStep s (getD l i 0) .bad ≡ true = sym (ap (λ (x : State). x .bad) e) ∙ t in rw (drop-more l i 0 h, bad)
 
   pub fault-more : r .bad ≡ false → faultFrom i s (drop i l) ≡ faultFrom (i + 1) r (drop (i + 1) l)
   fault-more f = fault-next s l i h (sym (ap (λ (x : State). x .bad) e) ∙ f) ∙ ap (λ (x : State). faultFrom (i + 1) x (drop (i + 1) l)) (sym e)

@@ -37,8 +37,8 @@ faulty high = record { comment = false; high = high; made = false; value = 0; ba
 abbrev pub start : State
 start = passedOf false 16
 
-unfoldable pub stepOf : State → ℕ → State
-stepOf s c =
+unfoldable pub characterStep : State → ℕ → State
+characterStep s c =
     cond (eqb c 10) (passedOf false (s .high))
     (cond (s .comment) (passedOf true (s .high))
     (cond (eqb c 35) (passedOf true (s .high))
@@ -52,15 +52,15 @@ madeOf s = cond (s .made) (s .value ∷ []) []
 
 unfoldable pub bytesFrom : State → List ℕ → List ℕ
 bytesFrom s [] = []
-bytesFrom s (c ∷ cs) = madeOf (stepOf s c) ++ bytesFrom (stepOf s c) cs
+bytesFrom s (c ∷ cs) = madeOf (characterStep s c) ++ bytesFrom (characterStep s c) cs
 
-abbrev pub bytesOf : List ℕ → List ℕ
-bytesOf text = bytesFrom start text
+abbrev pub notationBytes : List ℕ → List ℕ
+notationBytes text = bytesFrom start text
 
 -- ---- what is wrong in a text first: a character that is no digit, by its index, or an end after half a byte
 unfoldable pub faultFrom : ℕ → State → List ℕ → Fault
 faultFrom at s [] = cond (eqb (s .high) 16) Fault.None Fault.NoSecond
-faultFrom at s (c ∷ cs) = cond (stepOf s c .bad) (Fault.NoDigit at) (faultFrom (at + 1) (stepOf s c) cs)
+faultFrom at s (c ∷ cs) = cond (characterStep s c .bad) (Fault.NoDigit at) (faultFrom (at + 1) (characterStep s c) cs)
 
 abbrev pub faultOf : List ℕ → Fault
 faultOf text = faultFrom 0 start text
@@ -85,14 +85,14 @@ abbrev pub spotOf : List ℕ → Spot
 spotOf text = spotFrom (spot 1 1) text
 
 -- ---- the parse of a text into a lent buffer
-abbrev pub mostText : ℕ
-mostText = 1048576
+abbrev pub mostNotation : ℕ
+mostNotation = 1048576
 
 abbrev pub storedOf : List ℕ → ℕ → Parsed
-storedOf text room = cond (ltb room (length (bytesOf text))) Parsed.TooShort (Parsed.Length (length (bytesOf text)))
+storedOf text room = cond (ltb room (length (notationBytes text))) Parsed.TooShort (Parsed.Length (length (notationBytes text)))
 
 abbrev pub storedTo : List ℕ → List ℕ → List ℕ
-storedTo text out = cond (ltb (length out) (length (bytesOf text))) out (sets out 0 (bytesOf text))
+storedTo text out = cond (ltb (length out) (length (notationBytes text))) out (sets out 0 (notationBytes text))
 
 abbrev pub parsedBy : List ℕ → ℕ → Fault → Parsed
 parsedBy text room (Fault.NoDigit at) = Parsed.NoDigit (spotOf (take at text))
@@ -100,13 +100,13 @@ parsedBy text room Fault.NoSecond = Parsed.NoSecond (spotOf text)
 parsedBy text room Fault.None = storedOf text room
 
 abbrev pub parsedOf : List ℕ → ℕ → Parsed
-parsedOf text room = cond (ltb mostText (length text)) Parsed.TooLong (parsedBy text room (faultOf text))
+parsedOf text room = cond (ltb mostNotation (length text)) Parsed.TooLong (parsedBy text room (faultOf text))
 
 -- the buffer after it: the bytes from its start on, or all as it was
-abbrev pub leftBy : List ℕ → List ℕ → Fault → List ℕ
-leftBy text out (Fault.NoDigit at) = out
-leftBy text out Fault.NoSecond = out
-leftBy text out Fault.None = storedTo text out
+abbrev pub leftByParse : List ℕ → List ℕ → Fault → List ℕ
+leftByParse text out (Fault.NoDigit at) = out
+leftByParse text out Fault.NoSecond = out
+leftByParse text out Fault.None = storedTo text out
 
 abbrev pub leftOf : List ℕ → List ℕ → List ℕ
-leftOf text out = cond (ltb mostText (length text)) out (leftBy text out (faultOf text))
+leftOf text out = cond (ltb mostNotation (length text)) out (leftByParse text out (faultOf text))

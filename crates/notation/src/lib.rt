@@ -2,8 +2,8 @@
 ghost use Prim.Native.Nat.{_+_, _≤_, _<_};
 ghost use mathlib.Core.Path.{_≡_};
 ghost use lib.ListN.{length};
-ghost use Rattle.digits.specs.Stored.{Stored};
-ghost use Rattle.notation.specs.Notation.{bytesOf, digitOf, faultAt, faultOf, isFree, leftOf, madeOf, mostText, parsedOf, passedOf, spotOf, spotPast, stepOf, storedOf, storedTo};
+ghost use Rattle.number_text.specs.Stored.{Stored};
+ghost use Rattle.notation.specs.Notation.{notationBytes, digitOf, faultAt, faultOf, isFree, leftOf, madeOf, mostNotation, parsedOf, passedOf, spotOf, spotPast, characterStep, storedOf, storedTo};
 
 // The longest text.
 pub const MOST_TEXT: usize = 1048576;
@@ -112,7 +112,7 @@ fn passed(comment: bool, high: u8) -> State
 // The state after a character.
 fn step(s: State, c: u8) -> State
     requires { ⌜ s .high ≤ 16 ⌝ }
-    ensures { λ r. ⌜ (r ≡ stepOf s c) × (r .high ≤ 16) ⌝ }
+    ensures { λ r. ⌜ (r ≡ characterStep s c) × (r .high ≤ 16) ⌝ }
 {
     if c == b'\n' {
         return passed(false, s.high);
@@ -170,7 +170,7 @@ fn find_fault(text: &[u8]) -> Fault
 
 // A count, and one more where the state has a byte.
 fn count_after(count: usize, state: State) -> usize
-    requires { ⌜ count ≤ mostText ⌝ }
+    requires { ⌜ count ≤ mostNotation ⌝ }
     ensures { λ r. ⌜ (r ≡ count + length (madeOf state)) × (r ≤ count + 1) ⌝ }
 {
     if state.made {
@@ -181,8 +181,8 @@ fn count_after(count: usize, state: State) -> usize
 
 // The number of bytes of a text.
 fn count_bytes(text: &[u8]) -> usize
-    requires { ⌜ length (now text) ≤ mostText ⌝ }
-    ensures { λ r. ⌜ r ≡ length (bytesOf (now (text .entry))) ⌝ }
+    requires { ⌜ length (now text) ≤ mostNotation ⌝ }
+    ensures { λ r. ⌜ r ≡ length (notationBytes (now (text .entry))) ⌝ }
 {
     let mut state = State::START;
     let mut count: usize = 0;
@@ -209,8 +209,8 @@ fn put_made(out: &mut [u8], at: usize, state: State) -> usize
 
 // The bytes of a text, from the buffer's start on; the index after them.
 fn put_bytes(text: &[u8], out: &mut [u8]) -> usize
-    requires { ⌜ length (bytesOf (now text)) ≤ length (now out) ⌝ }
-    ensures { λ r. ⌜ Stored (bytesOf (now (text .entry))) (now (out .entry)) 0 (now (out .exit)) r ⌝ }
+    requires { ⌜ length (notationBytes (now text)) ≤ length (now out) ⌝ }
+    ensures { λ r. ⌜ Stored (notationBytes (now (text .entry))) (now (out .entry)) 0 (now (out .exit)) r ⌝ }
 {
     let mut state = State::START;
     let mut end: usize = 0;
@@ -225,7 +225,7 @@ fn put_bytes(text: &[u8], out: &mut [u8]) -> usize
 
 // The spot after a character at a spot.
 fn spot_past(spot: Spot, c: u8) -> Spot
-    requires { ⌜ (spot .line ≤ mostText) × (spot .column ≤ mostText) ⌝ }
+    requires { ⌜ (spot .line ≤ mostNotation) × (spot .column ≤ mostNotation) ⌝ }
     ensures { λ r. ⌜ (r ≡ spotPast spot c) × (r .line ≤ spot .line + 1) × (r .column ≤ spot .column + 1) ⌝ }
 {
     if c == b'\n' {
@@ -242,7 +242,7 @@ fn spot_past(spot: Spot, c: u8) -> Spot
 
 // The line and the column right after a text.
 fn spot_after(text: &[u8]) -> Spot
-    requires { ⌜ length (now text) ≤ mostText ⌝ }
+    requires { ⌜ length (now text) ≤ mostNotation ⌝ }
     ensures { λ r. ⌜ r ≡ spotOf (now (text .entry)) ⌝ }
 {
     let mut spot = Spot { line: 1, column: 1 };
@@ -256,7 +256,7 @@ fn spot_after(text: &[u8]) -> Spot
 
 // The bytes of a text that has no fault.
 fn store(text: &[u8], out: &mut [u8]) -> Parsed
-    requires { ⌜ length (now text) ≤ mostText ⌝ }
+    requires { ⌜ length (now text) ≤ mostNotation ⌝ }
     ensures { λ r. ⌜ (r ≡ storedOf (now (text .entry)) (length (now (out .entry)))) × (now (out .exit) ≡ storedTo (now (text .entry)) (now (out .entry))) ⌝ }
 {
     if out.len() < count_bytes(text) {

@@ -16,8 +16,8 @@ afterReading at (Reading.Refused k) = at
 abbrev pub stepAt : List ℕ → ℕ → Step
 stepAt sheet at = record { reading = readAt sheet at; at = afterReading at (readAt sheet at) }
 
-abbrev pub stepOf : Reader → Step
-stepOf r = stepAt (now (r .sheet)) (r .at)
+abbrev pub readerStep : Reader → Step
+readerStep r = stepAt (now (r .sheet)) (r .at)
 
 abbrev pub onward : Reader → Reader
 onward r = record { sheet = r .sheet; at = stepAt (now (r .sheet)) (r .at) .at }

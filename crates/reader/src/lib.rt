@@ -2,7 +2,7 @@
 use event::Cursor;
 use event::Reading;
 ghost use mathlib.Core.Path.{_≡_};
-ghost use Rattle.reader.specs.Reader.{afterReading, onward, stepAt, stepOf};
+ghost use Rattle.reader.specs.Reader.{afterReading, onward, stepAt, readerStep};
 
 // What was read, and where the reader stands then.
 pub struct Step {
@@ -38,7 +38,7 @@ pub fn step_at(sheet: &[u8], at: usize) -> Step
 
 // The next event, the end or a refusal; the reader moves on past an event.
 pub fn next<'s, 'a>(reader: &'s mut Reader<'a>) -> Reading
-    ensures { λ r. ⌜ (r ≡ stepOf (now (reader .entry)) .reading) × (now (reader .exit) ≡ onward (now (reader .entry))) ⌝ }
+    ensures { λ r. ⌜ (r ≡ readerStep (now (reader .entry)) .reading) × (now (reader .exit) ≡ onward (now (reader .entry))) ⌝ }
 {
     let step = step_at(reader.sheet, reader.at);
     reader.at = step.at;

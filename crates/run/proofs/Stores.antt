@@ -47,7 +47,7 @@ pub record Called (l : Line) (book : List ℕ) (e : Event) (a : Answer) (line′
   pub called : callEvent (stateOf l book) e ≡ leaves a line′ book′
   pub gathered : any (on isGathered) (line′ .lane) ≡ any (on isGathered) (l .lane)
 
-module _ (l : Line) (book : List ℕ) (few : l .lanes ≤ mostLanes) (ok : sound l (length book) ≡ true) (e : Event) (lane : ℕ) (by : scopeOf e ≡ Scope.Lane lane)
+module _ (l : Line) (book : List ℕ) (lanes-fit : l .lanes ≤ mostLanes) (ok : sound l (length book) ≡ true) (e : Event) (lane : ℕ) (by : scopeOf e ≡ Scope.Lane lane)
     (c : Change) (book′ : List ℕ) (seen : Seen) (sees : seen ≡ seenOf l (entryOf lane)) (is : c ≡ decided seen lane (l .view) (l .flag) book e) (puts : book′ ≡ bookDecided e book (c .answer)) where
   abbrev j : ℕ
   j = entryOf lane
@@ -56,10 +56,10 @@ module _ (l : Line) (book : List ℕ) (few : l .lanes ≤ mostLanes) (ok : sound
   change-is = is ∙ ap (λ (s : Seen). decided s lane (l .view) (l .flag) book e) sees
 
   regular : Regular (seenOf l j) c
-  regular = rw change-is (decided-regular (seenOf l j) few lane (l .view) (l .flag) book e)
+  regular = rw change-is (decided-regular (seenOf l j) lanes-fit lane (l .view) (l .flag) book e)
 
   applies : callEvent (stateOf l book) e ≡ changed l j c book′
-  applies = rw (puts, change-is) (decided-step l book few ok e lane by .is)
+  applies = rw (puts, change-is) (decided-step l book lanes-fit ok e lane by .is)
 
   -- where the stores leave what the change leaves
   stores : (line′ : Line) → applied l j c ≡ line′ → Called l book e (c .answer) line′ book′

@@ -7,7 +7,7 @@ use denote.Enum.Declared.{tagOf}
 use Rattle.line.specs.declared.Line.{Line}
 use Rattle.event.specs.declared.Reading.{Reading}
 use Rattle.event.proofs.Reading.{the-type}
-use Rattle.sheet_run.specs.Print.{endLineOf}
+use Rattle.printout.specs.Print.{endLineOf}
 use Rattle.run_text.specs.RunText.{lastLines}
 
 abbrev but-refused : List ℕ

@@ -4,7 +4,7 @@ use mathlib.Core.List.{List, _++_}
 use Rattle.line.specs.declared.Line.{Line}
 use Rattle.event.specs.declared.Reading.{Reading}
 use Rattle.steps.specs.declared.Answer.{Answer}
-use Rattle.sheet_run.specs.Print.{answerLine, endLineOf}
+use Rattle.printout.specs.Print.{answerLine, endLineOf}
 
 -- no text is longer than this, for a sheet of n bytes: an event has two bytes at least and a line 56 at most; the last two lines are counted apart
 abbrev pub mostText : ℕ → ℕ

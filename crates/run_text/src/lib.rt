@@ -3,12 +3,12 @@ ghost use Prim.Native.Nat.{_+_, _≤_};
 ghost use mathlib.Core.Path.{_≡_};
 ghost use lib.Dec.{leb};
 ghost use lib.ListN.{length};
-ghost use Rattle.digits.specs.Stored.{Stored};
+ghost use Rattle.number_text.specs.Stored.{Stored};
 ghost use Rattle.run_text.specs.RunText.{lastLines, mostText};
 use event::Reading;
 use line::Line;
-use print::put_answer;
-use print::put_end;
+use answer_text::put_answer;
+use answer_text::put_end;
 use steps::Answer;
 
 // Whether a buffer takes the text of any sheet of this length: 28 bytes for each byte of the sheet, and two lines more.

@@ -1,4 +1,4 @@
-// sheet: the papers' notation from standard input to a sheet's bytes on standard output; with the argument `show`, a sheet's bytes
+// sheet: the papers' notation from standard input to a sheet's bytes on standard output; with the argument `event_text`, a sheet's bytes
 // to one readable line an event.
 ghost use Prim.Native.Nat.{_≤_};
 ghost use mathlib.Core.Path.{_≡_};
@@ -57,7 +57,7 @@ fn write_bytes(text: &[u8]) {
         return;
     }
     let mut line = line_buffer();
-    let end = show::show_parse(&mut line, parsed);
+    let end = event_text::show_parse(&mut line, parsed);
     write_first(libc::STDERR_FILENO, &line, end);
 }
 
@@ -71,14 +71,14 @@ fn read_notation() {
 // The line of an event; false where it could not be written.
 fn write_event(count: u64, event: Event) -> bool {
     let mut line = line_buffer();
-    let end = show::show_event(&mut line, count, event);
+    let end = event_text::show_event(&mut line, count, event);
     write_first(libc::STDOUT_FILENO, &line, end)
 }
 
 // The line at bytes that are no event.
 fn write_refusal(count: u64, byte: u64, refusal: u8) {
     let mut line = line_buffer();
-    let end = show::show_refusal(&mut line, count, byte, refusal);
+    let end = event_text::show_refusal(&mut line, count, byte, refusal);
     write_first(libc::STDOUT_FILENO, &line, end);
 }
 
@@ -118,7 +118,7 @@ fn read_sheet() {
     write_lines(&space[..length]);
 }
 
-// Whether the first argument is `show`.
+// Whether the first argument is `event_text`.
 fn is_show() -> bool {
     let mut word: [u8; 8] = [0; 8];
     if os::arg(1, &mut word) != 4 {

@@ -16,7 +16,7 @@ use Rattle.line.specs.Line.{flagFor, isIdle, on}
 use Rattle.line.specs.Sound.{flagsOk, pastOk}
 use Rattle.line.specs.declared.Line.{Line}
 use Rattle.line.specs.declared.Phase.{Phase}
-use Rattle.lanes.specs.Rules.{isFlagged}
+use Rattle.lane_tests.specs.Rules.{isFlagged}
 
 -- ---- flags that are those of the phases
 idle-flag : (x : Phase) → isIdle x ≡ true → eqb 0 (flagFor x) ≡ true

@@ -2,9 +2,9 @@
 ghost use mathlib.Core.Path.{_≡_};
 ghost use mathlib.Core.Bool.{true};
 ghost use Rattle.line.specs.Sound.{busyOk, flagsOk, gatheredOk, pastOk, sound, turnOk};
-use lanes::rules;
-use lanes::rules::Rule;
-use lanes::tallies;
+use lane_tests::rules;
+use lane_tests::rules::Rule;
+use lane_tests::tallies;
 use line::Line;
 
 mod numbers;

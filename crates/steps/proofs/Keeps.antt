@@ -52,7 +52,7 @@ fresh-idle lanes capacity j = ap (λ (x : Lane). x .phase) (repeated mostLanes j
 pub fresh-facts : (lanes capacity : ℕ) → lanes ≤ mostLanes → Facts (opened lanes capacity)
 fresh-facts lanes capacity h =
     record {
-      base = record { long = refl; blocks = refl; few = h; flags = refl; regions = refl; disjoint = λ i j n. rw (fresh-idle lanes capacity i) refl; past = λ j p. fresh-idle lanes capacity j };
+      base = record { long = refl; blocks = refl; lanes-fit = h; flags = refl; regions = refl; disjoint = λ i j n. rw (fresh-idle lanes capacity i) refl; past = λ j p. fresh-idle lanes capacity j };
       turn = record { one = refl; values = refl };
       gathering = λ g. absurd (omega arith);
     }
@@ -93,16 +93,16 @@ module _ (l : Line) (F : Facts l) (i : ℕ) (h : i < l .lanes) (e : phaseAt l i 
     -- the lane raises its flag in a phase that is up
     raise-facts : (y : Phase) → isBusy y ≡ false → isGathered y ≡ false → flagFor y ≡ 1 → valueOk (l .pointer) y ≡ true
         → count (on hasTurn) (placed l i y) ≡ min 1 (count (on isUp) (placed l i y)) → Facts (raisedAs l i y)
-    raise-facts y calm loose up value one =
+    raise-facts y not-busy not-gathered up value one =
         record {
-          base = store-base l (F .base) i y (l .pointer) (set (l .flag) i 1) h (omega arith) (flags-set l (F .base) i y 1 (sym up)) (no-region l y calm) (λ j n. no-overlap y (phaseAt l j) calm);
+          base = store-base l (F .base) i y (l .pointer) (set (l .flag) i 1) h (omega arith) (flags-set l (F .base) i y 1 (sym up)) (no-region l y not-busy) (λ j n. no-overlap y (phaseAt l j) not-busy);
           turn = record { one = one; values = all-set (on (valueOk (l .pointer))) (l .lane) i (lane y) (F .turn .values) value };
           gathering = λ p. absurd (omega (arith, none p));
         }
       where
         none : 0 < count (on isGathered) (placed l i y) → count (on isGathered) (placed l i y) ≡ 0
         none p =
-            let r : count (on isGathered) (placed l i y) + bit false ≡ count (on isGathered) (l .lane) + bit false = rw loose at (recount l (F .base) isGathered i Phase.Idle y h e) in
+            let r : count (on isGathered) (placed l i y) + bit false ≡ count (on isGathered) (l .lane) + bit false = rw not-gathered at (recount l (F .base) isGathered i Phase.Idle y h e) in
             omega (arith, any-none (on isGathered) (l .lane) g)
 
     pub holds-facts : (p : Purpose) → othersDown l i ≡ true → Facts (raisedAs l i (Phase.Holding p (l .pointer)))
@@ -160,7 +160,7 @@ record Region (l : Line) (c : ℕ) (y : Phase) : Type 0 where
   left : leftIn y ≡ c
   turn : hasTurn y ≡ false
   down : flagFor y ≡ 0
-  loose : isGathered y ≡ false
+  not-gathered : isGathered y ≡ false
   room : implies (isWriting y) (fits (l .view) (l .capacity) (placeIn y) (leftIn y)) ≡ true
 
 take-leaving : (l : Line) → Facts l → (i c : ℕ) (p : Purpose) (v : Place) (y : Phase) → i < l .lanes → phaseAt l i ≡ Phase.Holding p v → Region l c y
@@ -172,9 +172,9 @@ take-leaving l F i c p v y h e R =
       was = e;
       turn = refl;
       up = refl;
-      quiet = busy-by (λ (z : Phase). hasTurn z ≡ false) c y (λ n. refl) (λ n. R .turn);
+      no-turn = busy-by (λ (z : Phase). hasTurn z ≡ false) c y (λ n. refl) (λ n. R .turn);
       down = busy-by (λ (z : Phase). flagFor z ≡ 0) c y (λ n. refl) (λ n. R .down);
-      loose = busy-by (λ (z : Phase). isGathered z ≡ false) c y (λ n. refl) (λ n. R .loose);
+      not-gathered = busy-by (λ (z : Phase). isGathered z ≡ false) c y (λ n. refl) (λ n. R .not-gathered);
       rise = omega arith;
       ok = busy-by (λ (z : Phase). regionOk (withPointer l (place (v .0 + c))) z ≡ true) c y (λ n. refl)
           (λ n. implies-from (isBusy y) _ (λ t. rw (le-leb 1 (leftIn y) (omega (arith, R .left)), le-leb (regionEnd y) (v .0 + c) (omega (arith, R .left, R .from)), R .room)));
@@ -185,18 +185,18 @@ pub take-writes-leaving : (l : Line) → Facts l → (i c : ℕ) (v : Place) →
     → fits (l .view) (l .capacity) v c ≡ true → Leaving l i (Phase.Holding Purpose.SharedWrite v) (writing c v) (place (v .0 + c))
 take-writes-leaving l F i c v h e f =
     take-leaving l F i c Purpose.SharedWrite v (Phase.BusyWriting c v) h e
-    (record { from = holding-value l F i Purpose.SharedWrite v e; left = refl; turn = refl; down = refl; loose = refl; room = f })
+    (record { from = holding-value l F i Purpose.SharedWrite v e; left = refl; turn = refl; down = refl; not-gathered = refl; room = f })
 
 pub take-reads-leaving : (l : Line) → Facts l → (i c : ℕ) (v : Place) → i < l .lanes → phaseAt l i ≡ Phase.Holding Purpose.SharedRead v
     → Leaving l i (Phase.Holding Purpose.SharedRead v) (reading c v) (place (v .0 + c))
 take-reads-leaving l F i c v h e =
     take-leaving l F i c Purpose.SharedRead v (Phase.BusyReading c v) h e
-    (record { from = holding-value l F i Purpose.SharedRead v e; left = refl; turn = refl; down = refl; loose = refl; room = refl })
+    (record { from = holding-value l F i Purpose.SharedRead v e; left = refl; turn = refl; down = refl; not-gathered = refl; room = refl })
 
 pub free-leaving : (l : Line) → Facts l → (i : ℕ) (v : Place) → i < l .lanes → phaseAt l i ≡ Phase.Holding Purpose.WholeBook v
     → Leaving l i (Phase.Holding Purpose.WholeBook v) Phase.Idle (l .pointer)
 free-leaving l F i v h e =
-    record { inside = h; was = e; turn = refl; up = refl; quiet = refl; down = refl; loose = refl; rise = omega arith; ok = refl; away = λ j n. refl }
+    record { inside = h; was = e; turn = refl; up = refl; no-turn = refl; down = refl; not-gathered = refl; rise = omega arith; ok = refl; away = λ j n. refl }
 
 -- ---- a busy lane with one record less
 -- y is what is left of the region o, of which one record is used up and one more is left
@@ -207,7 +207,7 @@ pub record Rest (o y : Phase) : Type 0 where
   pub same : isWriting y ≡ isWriting o
   pub turn : hasTurn y ≡ false
   pub down : flagFor y ≡ 0
-  pub loose : isGathered y ≡ false
+  pub not-gathered : isGathered y ≡ false
 
 abbrev regionTests : Line → Phase → List Bool
 regionTests l y = leb 1 (leftIn y) ∷ leb (regionEnd y) (l .pointer .0) ∷ implies (isWriting y) (fits (l .view) (l .capacity) (placeIn y) (leftIn y)) ∷ []
@@ -261,7 +261,7 @@ rest-facts l F ok i o y h e still flat R =
     new-down = busy-by (λ (z : Phase). flagFor z ≡ 0) (leftIn y) y (λ n. refl) (λ n. R .down)
 
     new-loose : isGathered new ≡ false
-    new-loose = busy-by (λ (z : Phase). isGathered z ≡ false) (leftIn y) y (λ n. refl) (λ n. R .loose)
+    new-loose = busy-by (λ (z : Phase). isGathered z ≡ false) (leftIn y) y (λ n. refl) (λ n. R .not-gathered)
 
     flat-up : (z : Phase) → flagFor z ≡ 0 → isUp z ≡ false
     flat-up z q = sym (one-up z) ∙ ap (λ (n : ℕ). eqb n 1) q
@@ -300,7 +300,7 @@ idle-facts l F v k e blocks =
           record {
             long = F .base .long;
             blocks = blocks;
-            few = F .base .few;
+            lanes-fit = F .base .lanes-fit;
             flags = F .base .flags;
             regions = all-none (on isBusy) (on (regionOk (withPointer (withView l v) k))) (λ x b. no-region (withPointer (withView l v) k) (x .phase) b) (l .lane) (omega arith);
             disjoint = F .base .disjoint;
@@ -320,19 +320,19 @@ module _ (x : State) (G : GoodState x) where
   write-rest i n k h e =
       let m = some-left (x .line) (G .facts) i (Phase.BusyWriting n k) e refl in
       rest-facts (x .line) (G .facts) (numbers (omega arith) .view) i (Phase.BusyWriting n k) (Phase.BusyWriting (n - 1) (place (k .0 + 1))) h e refl refl
-      (record { busy = refl; next = refl; left = omega arith; same = refl; turn = refl; down = refl; loose = refl })
+      (record { busy = refl; next = refl; left = omega arith; same = refl; turn = refl; down = refl; not-gathered = refl })
 
   read-rest : (i n : ℕ) (k : Place) → i < x .line .lanes → phaseAt (x .line) i ≡ Phase.BusyReading n k → Facts (withPhase (x .line) i (oneLess (Phase.BusyReading n k)))
   read-rest i n k h e =
       let m = some-left (x .line) (G .facts) i (Phase.BusyReading n k) e refl in
       rest-facts (x .line) (G .facts) (numbers (omega arith) .view) i (Phase.BusyReading n k) (Phase.BusyReading (n - 1) (place (k .0 + 1))) h e refl refl
-      (record { busy = refl; next = refl; left = omega arith; same = refl; turn = refl; down = refl; loose = refl })
+      (record { busy = refl; next = refl; left = omega arith; same = refl; turn = refl; down = refl; not-gathered = refl })
 
 -- the size is no part of these facts
 sized-facts : (l : Line) (n : ℕ) → Facts l → Facts (withSize l n)
 sized-facts l n F =
     record {
-      base = record { long = F .base .long; blocks = F .base .blocks; few = F .base .few; flags = F .base .flags; regions = F .base .regions; disjoint = F .base .disjoint; past = F .base .past };
+      base = record { long = F .base .long; blocks = F .base .blocks; lanes-fit = F .base .lanes-fit; flags = F .base .flags; regions = F .base .regions; disjoint = F .base .disjoint; past = F .base .past };
       turn = record { one = F .turn .one; values = F .turn .values };
       gathering = λ g. record { ready = F .gathering g .ready; fewer = F .gathering g .fewer; room = F .gathering g .room };
     }
@@ -381,17 +381,17 @@ module _ (x : State) (G : GoodState x) (h : 0 < x .line .lanes) where
 
   -- another pointer, another view, another size
   moved : (k : Place) → k .0 ≤ mostPointer → numbersOk (withPointer (x .line) k) (length (x .book)) ≡ true
-  moved k p = let n = open-now in open-ok (withPointer (x .line) k) (length (x .book)) h (record { few = n .few; least = n .least; most = n .most; sized = n .sized; reach = p; view = n .view; held = n .held })
+  moved k p = let n = open-now in open-ok (withPointer (x .line) k) (length (x .book)) h (record { lanes-fit = n .lanes-fit; least = n .least; most = n .most; sized = n .sized; reach = p; view = n .view; held = n .held })
 
   viewed-numbers : (v : View) → viewOk (x .line .capacity) v ≡ true → numbersOk (withPointer (withView (x .line) v) (place 0)) (length (x .book)) ≡ true
-  viewed-numbers v o = let n = open-now in open-ok (withPointer (withView (x .line) v) (place 0)) (length (x .book)) h (record { few = n .few; least = n .least; most = n .most; sized = n .sized; reach = omega arith; view = o; held = n .held })
+  viewed-numbers v o = let n = open-now in open-ok (withPointer (withView (x .line) v) (place 0)) (length (x .book)) h (record { lanes-fit = n .lanes-fit; least = n .least; most = n .most; sized = n .sized; reach = omega arith; view = o; held = n .held })
 
   grown-numbers : (k : Place) (content : ℕ) → fits (x .line .view) (x .line .capacity) k 1 ≡ true → numbersOk (grown (x .line) k) (length (bookWith x k content)) ≡ true
   grown-numbers k content f =
       let n = open-now in
       let end = record-ends (x .line .view) (x .line .capacity) k f in
       let same = length-sets (x .book) (positionOf (x .line .view) k .0) (bigEndian 8 content) in
-      open-ok (grown (x .line) k) (length (bookWith x k content)) h (record { few = n .few; least = n .least; most = n .most; sized = omega (arith, n .sized, end); reach = n .reach; view = n .view; held = omega (arith, n .held, same) })
+      open-ok (grown (x .line) k) (length (bookWith x k content)) h (record { lanes-fit = n .lanes-fit; least = n .least; most = n .most; sized = omega (arith, n .sized, end); reach = n .reach; view = n .view; held = omega (arith, n .held, same) })
 
   -- the pointer after a run that fits from it
   fits-moved : (k c : ℕ) → k ≡ x .line .pointer .0 → fits (x .line .view) (x .line .capacity) (place k) c ≡ true → k + c ≤ mostPointer
@@ -399,10 +399,10 @@ module _ (x : State) (G : GoodState x) (h : 0 < x .line .lanes) where
 
 opened-numbers : (lanes capacity : ℕ) (b : List ℕ) → 1 ≤ lanes → lanes ≤ mostLanes → 8 ≤ capacity → capacity ≤ 65536 → capacity ≤ length b
     → numbersOk (opened lanes capacity) (length (replicate capacity 0 ++ drop capacity b)) ≡ true
-opened-numbers lanes capacity b h few least most held =
+opened-numbers lanes capacity b h lanes-fit least most held =
     open-ok (opened lanes capacity) _ h
     (record {
-      few = few;
+      lanes-fit = lanes-fit;
       least = least;
       most = most;
       sized = omega arith;

@@ -165,7 +165,7 @@ module _ (l : Line) (F : Facts l) (i c : ℕ) (h : i < l .lanes) (e : phaseAt l 
   pub enter-facts : allEntered l (entered l i c) ≡ false → Facts (withLanes l (entered l i c))
   enter-facts q =
       let not-all = eqb-false (count (on isGathered) (entered l i c)) (l .lanes) q in
-      let few : count (on isGathered) (entered l i c) ≢ l .lanes = not-all in
+      let lanes-fit : count (on isGathered) (entered l i c) ≢ l .lanes = not-all in
       record {
         base = entered-base;
         turn =
@@ -196,7 +196,7 @@ module _ (l : Line) (F : Facts l) (i c : ℕ) (h : i < l .lanes) (e : phaseAt l 
               record {
                 long = starts-length (l .pointer .0) (entered l i c) ∙ entered-base .long;
                 blocks = F .base .blocks;
-                few = F .base .few;
+                lanes-fit = F .base .lanes-fit;
                 flags = completed-flags;
                 regions = starts-regions completed (l .pointer .0) (entered l i c) (omega arith) (λ a b u w. fits-part (l .capacity) (l .view) ok (F .base .blocks) (l .pointer .0) (gatheredTotal (entered l i c)) a b room u w);
                 disjoint = λ a b n. starts-disjoint (l .pointer .0) (entered l i c) a b n;

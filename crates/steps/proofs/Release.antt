@@ -48,9 +48,9 @@ pub record Leaving (l : Line) (i : ℕ) (o y : Phase) (k : Place) : Type 0 where
   pub was : phaseAt l i ≡ o
   pub turn : hasTurn o ≡ true
   pub up : isUp o ≡ true
-  pub quiet : hasTurn y ≡ false
+  pub no-turn : hasTurn y ≡ false
   pub down : flagFor y ≡ 0
-  pub loose : isGathered y ≡ false
+  pub not-gathered : isGathered y ≡ false
   pub rise : l .pointer .0 ≤ k .0
   pub ok : regionOk (withPointer l k) y ≡ true
   pub away : (j : ℕ) → j ≢ i → apart y (phaseAt l j) ≡ true
@@ -82,12 +82,12 @@ module _ (l : Line) (F : Facts l) (i : ℕ) (o y : Phase) (k : Place) (L : Leavi
 
   pub turn-none : count (on hasTurn) (placed l i y) ≡ 0
   turn-none =
-      let r : count (on hasTurn) (placed l i y) + bit true ≡ count (on hasTurn) (l .lane) + bit false = rw (L .turn, L .quiet) at (recount l (F .base) hasTurn i o y (L .inside) (L .was)) in
+      let r : count (on hasTurn) (placed l i y) + bit true ≡ count (on hasTurn) (l .lane) + bit false = rw (L .turn, L .no-turn) at (recount l (F .base) hasTurn i o y (L .inside) (L .was)) in
       omega (arith, F .turn .one)
 
   pub gathered-none : count (on isGathered) (placed l i y) ≡ 0
   gathered-none =
-      let r : count (on isGathered) (placed l i y) + bit (isGathered o) ≡ count (on isGathered) (l .lane) + bit false = rw (L .loose) at (recount l (F .base) isGathered i o y (L .inside) (L .was)) in
+      let r : count (on isGathered) (placed l i y) + bit (isGathered o) ≡ count (on isGathered) (l .lane) + bit false = rw (L .not-gathered) at (recount l (F .base) isGathered i o y (L .inside) (L .was)) in
       let q = none-gathered l F (omega (arith, up-less)) in omega arith
 
   own-down : raised (set (l .flag) i 0) i ≡ false

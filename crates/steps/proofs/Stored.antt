@@ -47,7 +47,7 @@ other-phase l i j y n = ap (λ (x : Lane). x .phase) (getD-set-other (l .lane) i
 
 module _ (l : Line) (B : Base l) where
   pub short : (i : ℕ) → i < l .lanes → i < length (l .lane)
-  short i h = omega (arith, B .long, B .few)
+  short i h = omega (arith, B .long, B .lanes-fit)
 
   pub same-phase : (i : ℕ) (y : Phase) → i < l .lanes → (getD (placed l i y) i idleLane) .phase ≡ y
   same-phase i y h = ap (λ (x : Lane). x .phase) (getD-set-same (l .lane) i (lane y) idleLane (short i h))
@@ -65,7 +65,7 @@ module _ (l : Line) (B : Base l) where
       record {
         long = length-set (l .lane) i (lane y) ∙ B .long;
         blocks = B .blocks;
-        few = B .few;
+        lanes-fit = B .lanes-fit;
         flags = flags;
         regions = all-set (on (regionOk (withPointer l k))) (l .lane) i (lane y) (all-mono (on (regionOk l)) (on (regionOk (withPointer l k))) (λ x e. region-rises l k rise (x .phase) e) (l .lane) (B .regions)) ok;
         disjoint = disjoint;

@@ -1,10 +1,10 @@
 -- `decode::read_seek` meets its contract: its fields in order.
 use mathlib.Core.Path.{refl, sym, _∙_, ap}
 use mir.Facts.{toZ-ofZ}
-use Rattle.fields.proofs.Signed.{signed-fits}
+use Rattle.decode_fields.proofs.Signed.{signed-fits}
 use mathlib.Core.List.{[], _∷_}
-use Rattle.fields.specs.Fields.{said32, said8}
-use Rattle.fields.proofs.InOrder.{and-then, cut-first, cut-later, got, missed}
+use Rattle.decode_fields.specs.Fields.{said32, said8}
+use Rattle.decode_fields.proofs.InOrder.{and-then, cut-first, cut-later, got, missed}
 use Rattle.decode.proofs.Bodies.{body-cut, body-read}
 use borrow.Author.Needs.{needs}
 use Rattle.decode.proofs.read_seek.Statement.{statement}

@@ -1,7 +1,7 @@
 -- `gudlemi_run` meets its contract: it is the run from an unopened line.
 use mathlib.Core.Path.{sym, ap, _∙_}
-use Rattle.embed.specs.Embedded.{lengthOf}
-use Rattle.whole_sheet.proofs.Fresh.{from-unopened}
+use Rattle.embed.specs.Embedded.{lengthPrinted}
+use Rattle.linebook_text.proofs.Fresh.{from-unopened}
 use borrow.Author.Needs.{needs}
 use Rattle.embed.proofs.gudlemi_run.Statement.{statement}
 use Rattle.embed.proofs.gudlemi_run.Tie as tie
@@ -30,7 +30,7 @@ returns c =
     let r = told .before .before .before .before .before .before in
     let u = r .before .before .before in
     let m = from-unopened _ _ _ _ _ _ _ (u .unopened .ensures) (r .run .ensures) in
-    (ap lengthOf (sym (told .printed .given .1) ∙ m .answer), (m .book, (rw (m .answer) at (m .fits), m .text)))
+    (ap lengthPrinted (sym (told .printed .given .1) ∙ m .answer), (m .book, (rw (m .answer) at (m .fits), m .text)))
 
 same-length-3 : tie.Need-same-length-3
 same-length-3 c = search needs
@@ -43,7 +43,7 @@ returns-2 c =
     let r = c .before .before .before .before .before .before in
     let u = r .before .before .before in
     let m = from-unopened _ _ _ _ _ _ _ (u .unopened .ensures) (r .run .ensures) in
-    (ap lengthOf (sym (c .enum-told .given .1) ∙ m .answer), (m .book, (rw (m .answer) at (m .fits), m .text)))
+    (ap lengthPrinted (sym (c .enum-told .given .1) ∙ m .answer), (m .book, (rw (m .answer) at (m .fits), m .text)))
 
 pub gudlemi-run-spec : {M : Type 1} → statement M
 gudlemi-run-spec =

@@ -9,7 +9,7 @@ use Rattle.changes.specs.declared.Seen.{Seen}
 use Rattle.changes.proofs.Within.{within-of}
 use Rattle.lane_calls.specs.Decided.{bookDecided, decided}
 use Rattle.lane_calls.proofs.Steps.{decided-regular, decided-step}
-use Rattle.refusals.proofs.Shape.{shape-of}
+use Rattle.refuse.proofs.Shape.{shape-of}
 use Rattle.event_calls.proofs.Changed.{meets-changed}
 use borrow.Author.Needs.{needs}
 use Rattle.event_calls.proofs.call_lane.Statement.{statement}
@@ -50,7 +50,7 @@ decide-requires c κs =
     rw (seen .see .ensures) (within (start seen))
 
 apply-requires : tie.Need-apply-requires
-apply-requires c κs = rw (change-is (c .before .before)) (decided-regular (look (start (see-of (c .before .before)))) (within (start (see-of (c .before .before))) .few) _ _ _ _ _ .wakes)
+apply-requires c κs = rw (change-is (c .before .before)) (decided-regular (look (start (see-of (c .before .before)))) (within (start (see-of (c .before .before))) .lanes-fit) _ _ _ _ _ .wakes)
 
 same-length : tie.Need-same-length
 same-length c = search needs
@@ -59,7 +59,7 @@ returns : tie.Need-returns
 returns c =
     let d = c .before .before .before in
     let s = start (see-of d) in
-    meets-changed (s .args .line) (entryOf (s .args .lane)) (change-of (look s) s) (decided-step (s .args .line) (s .args .book .now) (within s .few) (s .pre .0) (s .args .event) (s .args .lane) (s .pre .1) .is)
+    meets-changed (s .args .line) (entryOf (s .args .lane)) (change-of (look s) s) (decided-step (s .args .line) (s .args .book .now) (within s .lanes-fit) (s .pre .0) (s .args .event) (s .args .lane) (s .pre .1) .is)
     (c .apply .ensures ∙ ap (outcomeOf (s .args .line) (entryOf (s .args .lane))) (change-is d)) (d .decide .ensures .1 ∙ ap (book-of s) (change-is d))
 
 pub call-lane-spec : {M : Type 1} → statement M

@@ -1,6 +1,6 @@
 -- `event_test::magnitude` is safe: no sum and no cast leaves its type.
 use native.Mathlib.Omega.{arith}
-use Rattle.pack.proofs.Unsigned.{at-least, below}
+use Rattle.encode_fields.proofs.Unsigned.{at-least, below}
 use borrow.Author.Needs.{needs}
 use Rattle.event_test.proofs.magnitude.Statement.{statement}
 use Rattle.event_test.proofs.magnitude.Tie as tie

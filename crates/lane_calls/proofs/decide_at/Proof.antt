@@ -1,6 +1,6 @@
 -- `decide_at` meets its contract, kind by kind.
 use Rattle.lane_calls.specs.Decided.{bookDecided, decidedAt}
-use Rattle.records.proofs.Regular.{put-storable, write-storable}
+use Rattle.record_calls.proofs.Regular.{put-storable, write-storable}
 use Rattle.lane_calls.proofs.Others.{no-lane, none-decided, refused-book}
 use mathlib.Core.Path.{refl, _∙_}
 use borrow.Author.Needs.{needs}

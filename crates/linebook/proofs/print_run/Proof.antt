@@ -3,7 +3,7 @@ use Prim.Native.Nat.{ℕ, _≤_}
 use mathlib.Core.Path.{_≡_}
 use mathlib.Core.Bool.{true}
 use native.Mathlib.Omega.{arith}
-use Rattle.print.specs.declared.Printed.{Printed}
+use Rattle.answer_text.specs.declared.Printed.{Printed}
 use Rattle.run.specs.Runs.{textFits}
 use borrow.Author.Tests.{leb-true}
 use borrow.Author.Needs.{needs}

@@ -3,7 +3,7 @@ use Prim.Native.Nat.{_+_, _-_, _≤_}
 use mathlib.Core.Path.{_≡_, ap}
 use native.Mathlib.Omega.{arith}
 use lib.ListN.{drop, length}
-use Rattle.notation.specs.Notation.{bytesFrom, bytesOf}
+use Rattle.notation.specs.Notation.{bytesFrom, notationBytes}
 use Rattle.notation.proofs.Laws.{bytes-end, length-more}
 use borrow.Author.Needs.{needs}
 use Rattle.notation.proofs.count_bytes.Statement.{statement}
@@ -11,7 +11,7 @@ use Rattle.notation.proofs.count_bytes.Tie as tie
 
 abbrev Inv-loop : tie.InvT-loop
 Inv-loop text state₀ count₀ i₀ state count i =
-    (count + length (bytesFrom state (drop i text)) ≡ length (bytesOf text))
+    (count + length (bytesFrom state (drop i text)) ≡ length (notationBytes text))
     × (state .high ≤ 16)
     × (i ≤ length text)
     × (count ≤ i)

@@ -5,7 +5,7 @@ use native.Mathlib.Omega.{arith}
 use lib.ListN.{drop, length}
 use lib.Seq.{sets}
 use Rattle.lists.proofs.Sets.{sets-append}
-use Rattle.notation.specs.Notation.{bytesFrom, bytesOf, madeOf}
+use Rattle.notation.specs.Notation.{bytesFrom, notationBytes, madeOf}
 use Rattle.notation.proofs.Laws.{bytes-end, bytes-more, length-more}
 use borrow.Author.Needs.{needs}
 use Rattle.notation.proofs.put_bytes.Statement.{statement}
@@ -13,8 +13,8 @@ use Rattle.notation.proofs.put_bytes.Tie as tie
 
 abbrev Inv-loop : tie.InvT-loop
 Inv-loop text out₀ state₀ end₀ i₀ out state end i =
-    (sets out end (bytesFrom state (drop i text)) ≡ sets out₀ 0 (bytesOf text))
-    × (end + length (bytesFrom state (drop i text)) ≡ length (bytesOf text))
+    (sets out end (bytesFrom state (drop i text)) ≡ sets out₀ 0 (notationBytes text))
+    × (end + length (bytesFrom state (drop i text)) ≡ length (notationBytes text))
     × (length out ≡ length out₀)
     × (state .high ≤ 16)
     × (i ≤ length text)

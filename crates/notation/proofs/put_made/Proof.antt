@@ -1,7 +1,7 @@
 -- `notation::put_made` meets its contract.
 use native.Mathlib.Omega.{arith}
 use mathlib.Core.Path.{refl, sym}
-use Rattle.digits.proofs.Stores.{one-byte}
+use Rattle.number_text.proofs.Stores.{one-byte}
 use native.Mathlib.Nat.{add-zero}
 use borrow.Author.Needs.{needs}
 use Rattle.notation.proofs.put_made.Statement.{statement}

@@ -28,8 +28,8 @@ shared-slice-read-spot-past c = search needs
 spot-past-requires : tie.Need-spot-past-requires Inv-loop μ-loop
 spot-past-requires c κs =
     let lp = c .before .before .loop in
-    let few = c .before .before .before .before .pre in
-    (omega (arith, lp .inv .1, c .before .loop-test .taken, few), omega (arith, lp .inv .2, c .before .loop-test .taken, few))
+    let lanes-fit = c .before .before .before .before .pre in
+    (omega (arith, lp .inv .1, c .before .loop-test .taken, lanes-fit), omega (arith, lp .inv .2, c .before .loop-test .taken, lanes-fit))
 
 add-i : tie.Need-add-i Inv-loop μ-loop
 add-i c = search needs

@@ -2,7 +2,7 @@
 use Prim.Native.Nat.{_≤_}
 use native.Mathlib.Omega.{arith}
 use lib.ListN.{length}
-use Rattle.notation.specs.Notation.{bytesOf}
+use Rattle.notation.specs.Notation.{notationBytes}
 use Rattle.notation.proofs.Exits.{no-room, with-room}
 use borrow.Author.Needs.{needs}
 use Rattle.notation.proofs.store.Statement.{statement}
@@ -27,7 +27,7 @@ returns-2 c =
     let put = c .before .before in
     let left = put .before .before in
     let a = left .before .before .before .before .args in
-    let room : length (bytesOf (a .text .now)) ≤ length (a .out .now) = omega (arith, left .if1 .left, left .before .count-bytes .ensures) in
+    let room : length (notationBytes (a .text .now)) ≤ length (a .out .now) = omega (arith, left .if1 .left, left .before .count-bytes .ensures) in
     with-room (a .text .now) (a .out .now) room _ _ (put .put-bytes .ensures)
 
 pub store-spec : {M : Type 1} → statement M

@@ -41,7 +41,7 @@ use denote.Triple.Table.{entered, cited}
 use denote.Triple.Clauses.{ensured, lasts}
 use denote.Triple.Walked.{says, Stays, stay-none, stay-none-slice, walkOf, goes-none, goes-none-slice, Walks, ends-at, walked, walk-meets}
 use denote.Exit.{yes}
-use Rattle.reader.specs.Reader.{onward, stepOf}
+use Rattle.reader.specs.Reader.{onward, readerStep}
 use Rattle.reader.specs.declared.Reader.{Reader}
 use Rattle.event.specs.declared.Reading.{Reading}
 use Rattle.reader.specs.declared.Step.{Step}
@@ -115,7 +115,7 @@ module _ {M : Type 1} (𝓤 : URA M) (H : Heap 𝓤) (A : Atoms 𝓤) (W : Given
 
   -- what `next` says of its result and of the reader that it left
   abbrev Said : Reading → Reader → Type 0
-  Said r h = (r ≡ stepOf made .reading) × (h ≡ onward made)
+  Said r h = (r ≡ readerStep made .reading) × (h ≡ onward made)
 
   abbrev result : Reading → Reader → Step
   result r h = record { reading = r; at = h .at }

@@ -19,7 +19,7 @@ use Rattle.event.specs.declared.Reading.{Reading}
 use Rattle.event.proofs.Lengths.{reads}
 use Rattle.reader.specs.Reader.{afterReading}
 use Rattle.reader.specs.declared.Step.{Step}
-use Rattle.refusals.proofs.Shape.{shape-of}
+use Rattle.refuse.proofs.Shape.{shape-of}
 use Rattle.run.proofs.Stores.{met, none-called, seenWith, sees-line, woken-called}
 use Rattle.run.proofs.Going.{Going, ends, goes-on, is-sound, starts}
 use Rattle.run.proofs.run_sound.Statement.{statement}
@@ -255,7 +255,7 @@ loop-again-2 c =
     let w = c .before .before .before .before in
     let wake = c .before .before in
     let G = l .loop .inv in
-    let done = woken-called (l .loop .next) (l .loop .book) (G .good .facts .base .few) (is-sound _ _ _ _ _ _ _ _ _ _ G) (event co) (lane-of e) (by-lane e)
+    let done = woken-called (l .loop .next) (l .loop .book) (G .good .facts .base .lanes-fit) (is-sound _ _ _ _ _ _ _ _ _ _ G) (event co) (lane-of e) (by-lane e)
     (d .decide .result) _ (seen-at e) (sees e) (d .decide .ensures .0) (d .decide .ensures .1) (e .entry-of .result) (w .wakes .given .0 .0) (wake .entry-of2 .result) (c .wake-lane .result .phase) (e .entry-of .ensures .0) (w .wakes .given .1) (wake .entry-of2 .ensures .0) (ap (λ (x : Lane). x .phase) (c .wake-lane .ensures)) in
     goes-on _ _ _ _ _ _ _ _ _ _ G (event co) (cursor co) (event-is co) (d .decide .result .answer) _ _ (done .called)
     _ _ (p .put-answer2 .ensures .0) (p .put-answer2 .ensures .1) _ (G .gathered ∙ sym (done .gathered)) (d .decide .kept .1 .1 .1 .1 .0) (p .put-answer2 .kept .0) _ (at-is co)
@@ -275,7 +275,7 @@ loop-again-3 c =
     let l = entry-loop e in
     let p = c .before .before .before .before .before in
     let G = l .loop .inv in
-    let done = none-called (l .loop .next) (l .loop .book) (G .good .facts .base .few) (is-sound _ _ _ _ _ _ _ _ _ _ G) (event co) (lane-of e) (by-lane e)
+    let done = none-called (l .loop .next) (l .loop .book) (G .good .facts .base .lanes-fit) (is-sound _ _ _ _ _ _ _ _ _ _ G) (event co) (lane-of e) (by-lane e)
     (d .decide .result) _ (seen-at e) (sees e) (d .decide .ensures .0) (d .decide .ensures .1) (e .entry-of .result) (e .entry-of .ensures .0) (c .enum-told2 .given .1) in
     goes-on _ _ _ _ _ _ _ _ _ _ G (event co) (cursor co) (event-is co) (d .decide .result .answer) _ _ (done .called)
     _ _ (p .put-answer2 .ensures .0) (p .put-answer2 .ensures .1) _ (G .gathered ∙ sym (done .gathered)) (d .decide .kept .1 .1 .1 .1 .0) (p .put-answer2 .kept .0) _ (at-is co)

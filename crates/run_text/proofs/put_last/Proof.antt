@@ -1,6 +1,6 @@
 -- `put_last` meets its contract.
 use native.Mathlib.Omega.{arith}
-use Rattle.digits.proofs.Stores.{and-then}
+use Rattle.number_text.proofs.Stores.{and-then}
 use Rattle.run_text.proofs.Last.{no-refusal}
 use borrow.Author.Needs.{needs}
 use Rattle.run_text.proofs.put_last.Statement.{statement}

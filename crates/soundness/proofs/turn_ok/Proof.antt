@@ -8,7 +8,7 @@ use borrow.Author.Tests.{eq-eqb, lt-ltb, ne-eqb}
 use Rattle.lists.specs.Lists.{any, count}
 use Rattle.line.specs.Line.{on}
 use Rattle.line.specs.declared.Line.{Line}
-use Rattle.lanes.specs.Rules.{isFlagged}
+use Rattle.lane_tests.specs.Rules.{isFlagged}
 use Rattle.soundness.proofs.Laws.{raised-any}
 use borrow.Author.Needs.{needs}
 use Rattle.soundness.proofs.turn_ok.Statement.{statement}

@@ -20,8 +20,8 @@ narrow c = le-leb _ _ (c .if3 .left)
 in-use : (c : tie.Else4) → leb 1 (c .before .before .before .before .before .before .args .self .used) ≡ true
 in-use c = le-leb _ _ (c .if4 .left)
 
-few : (c : tie.Else5) → leb (c .before .before .before .before .before .before .before .args .self .used) 8 ≡ true
-few c = le-leb _ _ (c .if5 .left)
+lanes-fit : (c : tie.Else5) → leb (c .before .before .before .before .before .before .before .args .self .used) 8 ≡ true
+lanes-fit c = le-leb _ _ (c .if5 .left)
 
 returns : tie.Need-returns
 unfolding viewOk
@@ -55,7 +55,7 @@ returns-6 c =
     let e5 = c .before .before in
     let e4 = e5 .before in
     let e3 = e4 .before in
-    rw (low (e3 .before .before), some (e3 .before), narrow e3, in-use e4, few e5, sym (c .before .in-order .ensures) ∙ not-true _ (c .if6 .taken))
+    rw (low (e3 .before .before), some (e3 .before), narrow e3, in-use e4, lanes-fit e5, sym (c .before .in-order .ensures) ∙ not-true _ (c .if6 .taken))
 
 cast-all-unused : tie.Need-cast-all-unused
 cast-all-unused c = search needs
@@ -74,7 +74,7 @@ returns-7 c =
       some (e3 .before),
       narrow e3,
       in-use e4,
-      few e5,
+      lanes-fit e5,
       sym (c .before .before .in-order .ensures) ∙ not-false _ (c .before .if6 .left),
       and-true,
     )

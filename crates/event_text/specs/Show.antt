@@ -1,0 +1,86 @@
+-- Sheets in words: a line an event, and the line that says what is wrong.
+use Prim.Native.Nat.{ℕ, _-_}
+use mathlib.Core.Bool.{cond}
+use mathlib.Core.List.{List, [], _∷_, _++_}
+use lib.Dec.{eqb, ltb}
+use Rattle.view.specs.declared.Block.{Block}
+use Rattle.event.specs.BigEndian.{unsigned}
+use Rattle.event.specs.declared.Blocks.{Blocks}
+use Rattle.event.specs.declared.Event.{Event}
+use Rattle.number_text.specs.Stored.{Stored}
+use Rattle.printout.specs.Text.{ascii}
+use Rattle.printout.specs.Print.{decimal, hexIn, words}
+use Rattle.notation.specs.declared.Parsed.{Parsed}
+use Rattle.notation.specs.declared.Spot.{Spot}
+
+-- the longest line that a function here asks room for
+abbrev pub mostEventLine : ℕ
+mostEventLine = 640
+
+-- the longest line of an event from its kind's word on: a view's three names with a number of 20 digits each, and eight blocks
+abbrev pub mostWords : ℕ
+mostWords = 463
+
+-- two texts stored one after the other, as `Stored` says it of one
+pub record StoredTwo (xs ys before : List ℕ) (at : ℕ) (after : List ℕ) (answer : ℕ) : Type 0 where
+  pub both : Stored (xs ++ ys) before at after answer
+
+-- a number of two's complement in four bytes, in decimal with its sign
+abbrev pub signedText : ℕ → List ℕ
+signedText n = cond (ltb n 2147483648) (decimal n) (ascii "-" ++ decimal (4294967296 - n))
+
+-- a block: `(start, length)`
+abbrev pub blockText : Block → List ℕ
+blockText b = ascii "(" ++ ((decimal (b .start) ++ ascii ",") ++ (ascii " " ++ (decimal (b .length) ++ ascii ")")))
+
+abbrev pub blockWords : Blocks → List (List ℕ)
+blockWords b =
+    blockText (b .b0)
+    ∷ blockText (b .b1)
+    ∷ blockText (b .b2)
+    ∷ blockText (b .b3)
+    ∷ blockText (b .b4)
+    ∷ blockText (b .b5)
+    ∷ blockText (b .b6)
+    ∷ blockText (b .b7)
+    ∷ []
+
+-- the kind's word and the named fields, in the body's order
+unfoldable pub eventWords : Event → List (List ℕ)
+eventWords (Event.Open lanes capacity) = ascii "open lanes" ∷ decimal lanes ∷ ascii "capacity" ∷ decimal capacity ∷ []
+eventWords (Event.Want lane purpose) = ascii "want lane" ∷ decimal lane ∷ ascii "purpose" ∷ decimal purpose ∷ []
+eventWords (Event.Receive lane) = ascii "receive lane" ∷ decimal lane ∷ []
+eventWords (Event.Take lane count) = ascii "take lane" ∷ decimal lane ∷ ascii "count" ∷ decimal count ∷ []
+eventWords (Event.Write lane content) = ascii "write lane" ∷ decimal lane ∷ ascii "record" ∷ hexIn 16 content ∷ []
+eventWords (Event.Read lane) = ascii "read lane" ∷ decimal lane ∷ []
+eventWords (Event.Put lane place content) =
+    ascii "put lane" ∷ decimal lane ∷ ascii "place" ∷ decimal (place .0) ∷ ascii "record" ∷ hexIn 16 content ∷ []
+eventWords (Event.Look lane place) = ascii "look lane" ∷ decimal lane ∷ ascii "place" ∷ decimal (place .0) ∷ []
+eventWords (Event.Free lane) = ascii "free lane" ∷ decimal lane ∷ []
+eventWords (Event.Enter lane count) = ascii "enter lane" ∷ decimal lane ∷ ascii "count" ∷ decimal count ∷ []
+eventWords (Event.View displacement extent used blocks) =
+    ascii "view displacement" ∷ decimal displacement ∷ ascii "extent" ∷ decimal extent ∷ ascii "blocks" ∷ decimal used ∷ blockWords blocks
+eventWords (Event.Seek whence offset) = ascii "seek whence" ∷ decimal whence ∷ ascii "offset" ∷ signedText (unsigned offset) ∷ []
+eventWords Event.Unlisted = ascii "unlisted" ∷ []
+
+-- the event's number from 0, then its words
+abbrev pub eventLine : ℕ → Event → List ℕ
+eventLine number e = (decimal number ++ ascii " ") ++ words (eventWords e)
+
+-- the line at bytes that are no event: refusal 2 or 3
+abbrev pub reason : ℕ → List ℕ
+reason k = cond (eqb k 2) (ascii "kind not listed") (ascii "body cut short")
+
+abbrev pub refusalLine : ℕ → ℕ → ℕ → List ℕ
+refusalLine number at k = words (decimal number ∷ ascii "at byte" ∷ (decimal at ++ ascii ":") ∷ reason k ∷ [])
+
+-- the line of a parse that failed; one that did not has none
+abbrev pub spotLine : Spot → List ℕ → List ℕ
+spotLine s expected = words (ascii "line" ∷ (decimal (s .line) ++ ascii ",") ∷ ascii "column" ∷ (decimal (s .column) ++ ascii ":") ∷ expected ∷ [])
+
+unfoldable pub parseLine : Parsed → List ℕ
+parseLine (Parsed.Length n) = []
+parseLine (Parsed.NoDigit s) = spotLine s (ascii "expected a hexadecimal digit")
+parseLine (Parsed.NoSecond s) = spotLine s (ascii "expected one hexadecimal digit more: the text has an odd number of them")
+parseLine Parsed.TooLong = words (ascii "the text is longer than 1048576 bytes" ∷ [])
+parseLine Parsed.TooShort = words (ascii "the bytes do not fit the buffer" ∷ [])

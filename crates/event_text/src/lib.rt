@@ -1,0 +1,294 @@
+// Sheets in words, stored in a lent buffer: a line an event, and the line that says what is wrong.
+use event::Blocks;
+use event::Event;
+use notation::Parsed;
+use notation::Spot;
+use view::Block;
+use word_text::BLANK;
+use word_text::LINE_END;
+use word_text::put_number;
+use word_text::put_record;
+use word_text::put_word;
+ghost use Prim.Native.Nat.{_+_, _≤_, _<_};
+ghost use mathlib.Core.Path.{_≡_};
+ghost use mathlib.Core.List.{[], _∷_, _++_};
+ghost use lib.ListN.{length};
+ghost use Rattle.event.specs.Event.{fieldsOf};
+ghost use Rattle.printout.specs.Text.{ascii};
+ghost use Rattle.printout.specs.Print.{decimal, hexIn, words};
+ghost use Rattle.number_text.specs.Stored.{Stored};
+ghost use Rattle.event_text.specs.Show.{StoredTwo, blockText, blockWords, eventLine, eventWords, mostEventLine, mostWords, parseLine, reason, refusalLine, signedText, spotLine};
+
+// A word and the byte after it. All functions here return the index after what they stored.
+fn word(out: &mut [u8], at: usize, text: &[u8], after: u8) -> usize
+    requires { ⌜ at + length (now text) + 1 ≤ length (now out) ⌝ }
+    ensures { λ r. ⌜ Stored (now (text .entry) ++ after ∷ []) (now (out .entry)) at (now (out .exit)) r × (r ≡ at + length (now (text .entry)) + 1) ⌝ }
+{
+    put_word(out, at, text, after)
+}
+
+// A number in decimal, of at most 20 digits, and the byte after it.
+fn number(out: &mut [u8], at: usize, n: u64, after: u8) -> usize
+    requires { ⌜ at + 21 ≤ length (now out) ⌝ }
+    ensures { λ r. ⌜ Stored (decimal n ++ after ∷ []) (now (out .entry)) at (now (out .exit)) r × (r ≤ at + 21) ⌝ }
+{
+    put_number(out, at, n, after)
+}
+
+// A byte.
+fn mark(out: &mut [u8], at: usize, byte: u8) -> usize
+    requires { ⌜ at + 1 ≤ length (now out) ⌝ }
+    ensures { λ r. ⌜ Stored (byte ∷ []) (now (out .entry)) at (now (out .exit)) r × (r ≡ at + 1) ⌝ }
+{
+    out[at] = byte;
+    at + 1
+}
+
+// A record in hexadecimal, to the line's end.
+fn recorded(out: &mut [u8], at: usize, content: u64) -> usize
+    requires { ⌜ at + 24 ≤ length (now out) ⌝ }
+    ensures { λ r. ⌜ Stored (words (ascii "record" ∷ hexIn 16 content ∷ [])) (now (out .entry)) at (now (out .exit)) r × (r ≤ at + 24) ⌝ }
+{
+    put_record(out, at, content)
+}
+
+// A name, a number and the byte after it.
+fn named(out: &mut [u8], at: usize, name: &[u8], n: u64, after: u8) -> usize
+    requires { ⌜ at + length (now name) + 22 ≤ length (now out) ⌝ }
+    ensures { λ r. ⌜ StoredTwo (now (name .entry) ++ 32 ∷ []) (decimal n ++ after ∷ []) (now (out .entry)) at (now (out .exit)) r × (r ≤ at + length (now (name .entry)) + 22) ⌝ }
+{
+    let next = word(out, at, name, BLANK);
+    number(out, next, n, after)
+}
+
+// Two named numbers, to the line's end.
+fn put_fields(out: &mut [u8], at: usize, first: &[u8], a: u8, second: &[u8], b: u64) -> usize
+    requires { ⌜ at + length (now first) + length (now second) + 44 ≤ length (now out) ⌝ }
+    ensures { λ r. ⌜ Stored (words (now (first .entry) ∷ decimal a ∷ now (second .entry) ∷ decimal b ∷ [])) (now (out .entry)) at (now (out .exit)) r × (r ≤ length (now (out .entry))) ⌝ }
+{
+    let next = named(out, at, first, a as u64, BLANK);
+    named(out, next, second, b, LINE_END)
+}
+
+// 05 write: a lane and a record.
+fn put_write(out: &mut [u8], at: usize, lane: u8, content: u64) -> usize
+    requires { ⌜ at + mostWords ≤ length (now out) ⌝ }
+    ensures { λ r. ⌜ Stored (words (ascii "write lane" ∷ decimal lane ∷ ascii "record" ∷ hexIn 16 content ∷ [])) (now (out .entry)) at (now (out .exit)) r × (r ≤ length (now (out .entry))) ⌝ }
+{
+    let next = named(out, at, b"write lane", lane as u64, BLANK);
+    recorded(out, next, content)
+}
+
+// 07 put: a lane, a place and a record.
+fn put_put(out: &mut [u8], at: usize, lane: u8, place: u32, content: u64) -> usize
+    requires { ⌜ at + mostWords ≤ length (now out) ⌝ }
+    ensures { λ r. ⌜ Stored (words (ascii "put lane" ∷ decimal lane ∷ ascii "place" ∷ decimal place ∷ ascii "record" ∷ hexIn 16 content ∷ [])) (now (out .entry)) at (now (out .exit)) r × (r ≤ length (now (out .entry))) ⌝ }
+{
+    let next = named(out, at, b"put lane", lane as u64, BLANK);
+    let then = named(out, next, b"place", place as u64, BLANK);
+    recorded(out, then, content)
+}
+
+// A number, the byte after it and a blank.
+fn put_marked(out: &mut [u8], at: usize, n: u64, after: u8) -> usize
+    requires { ⌜ at + 22 ≤ length (now out) ⌝ }
+    ensures { λ r. ⌜ StoredTwo (decimal n ++ after ∷ []) (32 ∷ []) (now (out .entry)) at (now (out .exit)) r × (r ≤ at + 22) ⌝ }
+{
+    let end = number(out, at, n, after);
+    mark(out, end, BLANK)
+}
+
+// A block and the byte after it.
+fn put_block(out: &mut [u8], at: usize, block: Block, after: u8) -> usize
+    requires { ⌜ at + 46 ≤ length (now out) ⌝ }
+    ensures { λ r. ⌜ Stored (blockText block ++ after ∷ []) (now (out .entry)) at (now (out .exit)) r × (r ≤ at + 46) ⌝ }
+{
+    let to1 = mark(out, at, b'(');
+    let to2 = put_marked(out, to1, block.start as u64, b',');
+    let to3 = number(out, to2, block.length as u64, b')');
+    mark(out, to3, after)
+}
+
+// Two blocks and the byte after them.
+fn put_two_blocks(out: &mut [u8], at: usize, a: Block, b: Block, after: u8) -> usize
+    requires { ⌜ at + 92 ≤ length (now out) ⌝ }
+    ensures { λ r. ⌜ StoredTwo (blockText a ++ 32 ∷ []) (blockText b ++ after ∷ []) (now (out .entry)) at (now (out .exit)) r × (r ≤ at + 92) ⌝ }
+{
+    let next = put_block(out, at, a, BLANK);
+    put_block(out, next, b, after)
+}
+
+// The eight blocks of a view, to the line's end.
+fn put_blocks(out: &mut [u8], at: usize, blocks: Blocks) -> usize
+    requires { ⌜ at + 368 ≤ length (now out) ⌝ }
+    ensures { λ r. ⌜ Stored (words (blockWords blocks)) (now (out .entry)) at (now (out .exit)) r × (r ≤ at + 368) ⌝ }
+{
+    let to1 = put_two_blocks(out, at, blocks.b0, blocks.b1, BLANK);
+    let to2 = put_two_blocks(out, to1, blocks.b2, blocks.b3, BLANK);
+    let to3 = put_two_blocks(out, to2, blocks.b4, blocks.b5, BLANK);
+    put_two_blocks(out, to3, blocks.b6, blocks.b7, LINE_END)
+}
+
+// 0B view.
+fn put_view(
+    out: &mut [u8],
+    at: usize,
+    displacement: u32,
+    extent: u16,
+    used: u8,
+    blocks: Blocks,
+) -> usize
+    requires { ⌜ at + mostWords ≤ length (now out) ⌝ }
+    ensures { λ r. ⌜ Stored (words (ascii "view displacement" ∷ decimal displacement ∷ ascii "extent" ∷ decimal extent ∷ ascii "blocks" ∷ decimal used ∷ blockWords blocks)) (now (out .entry)) at (now (out .exit)) r × (r ≤ length (now (out .entry))) ⌝ }
+{
+    let to1 = named(out, at, b"view displacement", displacement as u64, BLANK);
+    let to2 = named(out, to1, b"extent", extent as u64, BLANK);
+    let to3 = named(out, to2, b"blocks", used as u64, BLANK);
+    put_blocks(out, to3, blocks)
+}
+
+// A number of two's complement, with its sign, and the byte after it.
+fn put_signed(out: &mut [u8], at: usize, n: u32, after: u8) -> usize
+    requires { ⌜ at + 22 ≤ length (now out) ⌝ }
+    ensures { λ r. ⌜ Stored (signedText n ++ after ∷ []) (now (out .entry)) at (now (out .exit)) r × (r ≤ at + 22) ⌝ }
+{
+    if n < 2147483648 {
+        return number(out, at, n as u64, after);
+    }
+    let next = mark(out, at, b'-');
+    number(out, next, 4294967296 - n as u64, after)
+}
+
+// 0C seek: a whence and a signed offset.
+fn put_seek(out: &mut [u8], at: usize, whence: u8, offset: u32) -> usize
+    requires { ⌜ at + mostWords ≤ length (now out) ⌝ }
+    ensures { λ r. ⌜ Stored (words (ascii "seek whence" ∷ decimal whence ∷ ascii "offset" ∷ signedText offset ∷ [])) (now (out .entry)) at (now (out .exit)) r × (r ≤ length (now (out .entry))) ⌝ }
+{
+    let next = named(out, at, b"seek whence", whence as u64, BLANK);
+    let then = word(out, next, b"offset", BLANK);
+    put_signed(out, then, offset, LINE_END)
+}
+
+// An event with a lane alone, or one of an unlisted kind.
+fn put_short(out: &mut [u8], at: usize, event: Event) -> usize
+    requires { ⌜ (at + mostWords ≤ length (now out)) × (length (fieldsOf event) ≤ 1) ⌝ }
+    ensures { λ r. ⌜ Stored (words (eventWords event)) (now (out .entry)) at (now (out .exit)) r × (r ≤ length (now (out .entry))) ⌝ }
+{
+    match event {
+        Event::Receive { lane } => named(out, at, b"receive lane", lane as u64, LINE_END),
+        Event::Read { lane } => named(out, at, b"read lane", lane as u64, LINE_END),
+        Event::Free { lane } => named(out, at, b"free lane", lane as u64, LINE_END),
+        _ => word(out, at, b"unlisted", LINE_END),
+    }
+}
+
+// An event of at most two fields.
+fn put_pair(out: &mut [u8], at: usize, event: Event) -> usize
+    requires { ⌜ (at + mostWords ≤ length (now out)) × (length (fieldsOf event) ≤ 2) ⌝ }
+    ensures { λ r. ⌜ Stored (words (eventWords event)) (now (out .entry)) at (now (out .exit)) r × (r ≤ length (now (out .entry))) ⌝ }
+{
+    match event {
+        Event::Open { lanes, capacity } => {
+            put_fields(out, at, b"open lanes", lanes, b"capacity", capacity as u64)
+        }
+        Event::Want { lane, purpose } => {
+            put_fields(out, at, b"want lane", lane, b"purpose", purpose as u64)
+        }
+        Event::Take { lane, count } => {
+            put_fields(out, at, b"take lane", lane, b"count", count as u64)
+        }
+        Event::Write { lane, content } => put_write(out, at, lane, content),
+        Event::Look { lane, place } => {
+            put_fields(out, at, b"look lane", lane, b"place", place.0 as u64)
+        }
+        Event::Enter { lane, count } => {
+            put_fields(out, at, b"enter lane", lane, b"count", count as u64)
+        }
+        Event::Seek { whence, offset } => put_seek(out, at, whence, encode_fields::unsigned_of(offset)),
+        _ => put_short(out, at, event),
+    }
+}
+
+// An event's line from its kind's word on.
+fn put_event(out: &mut [u8], at: usize, event: Event) -> usize
+    requires { ⌜ at + mostWords ≤ length (now out) ⌝ }
+    ensures { λ r. ⌜ Stored (words (eventWords event)) (now (out .entry)) at (now (out .exit)) r × (r ≤ length (now (out .entry))) ⌝ }
+{
+    match event {
+        Event::Put {
+            lane,
+            place,
+            content,
+        } => put_put(out, at, lane, place.0, content),
+        Event::View {
+            displacement,
+            extent,
+            used,
+            blocks,
+        } => put_view(out, at, displacement, extent, used, blocks),
+        _ => put_pair(out, at, event),
+    }
+}
+
+// The line of an event, at the buffer's start: its number, its kind's word and its named fields.
+pub fn show_event(out: &mut [u8], count: u64, event: Event) -> usize
+    requires { ⌜ mostEventLine ≤ length (now out) ⌝ }
+    ensures { λ r. ⌜ Stored (eventLine count event) (now (out .entry)) 0 (now (out .exit)) r × (r ≤ length (now (out .entry))) ⌝ }
+{
+    let next = number(out, 0, count, BLANK);
+    put_event(out, next, event)
+}
+
+// Why bytes are no event: refusal 2 or 3.
+fn put_reason(out: &mut [u8], at: usize, refusal: u8) -> usize
+    requires { ⌜ at + 16 ≤ length (now out) ⌝ }
+    ensures { λ r. ⌜ Stored (words (reason refusal ∷ [])) (now (out .entry)) at (now (out .exit)) r × (r ≤ length (now (out .entry))) ⌝ }
+{
+    if refusal == 2 {
+        return word(out, at, b"kind not listed", LINE_END);
+    }
+    word(out, at, b"body cut short", LINE_END)
+}
+
+// The line at bytes that are no event: the number that an event would have, the byte and the reason.
+pub fn show_refusal(out: &mut [u8], count: u64, byte: u64, refusal: u8) -> usize
+    requires { ⌜ mostEventLine ≤ length (now out) ⌝ }
+    ensures { λ r. ⌜ Stored (refusalLine count byte refusal) (now (out .entry)) 0 (now (out .exit)) r × (r ≤ length (now (out .entry))) ⌝ }
+{
+    let next = number(out, 0, count, BLANK);
+    let then = word(out, next, b"at byte", BLANK);
+    let last = put_marked(out, then, byte, b':');
+    put_reason(out, last, refusal)
+}
+
+// A spot and what was expected there.
+fn put_spot(out: &mut [u8], spot: Spot, expected: &[u8]) -> usize
+    requires { ⌜ length (now expected) + 100 ≤ length (now out) ⌝ }
+    ensures { λ r. ⌜ Stored (spotLine spot (now (expected .entry))) (now (out .entry)) 0 (now (out .exit)) r × (r ≤ length (now (out .entry))) ⌝ }
+{
+    let to1 = word(out, 0, b"line", BLANK);
+    let to2 = put_marked(out, to1, spot.line, b',');
+    let to3 = word(out, to2, b"column", BLANK);
+    let to4 = put_marked(out, to3, spot.column, b':');
+    word(out, to4, expected, LINE_END)
+}
+
+// The line of a parse that failed; one that did not has none.
+pub fn show_parse(out: &mut [u8], parsed: Parsed) -> usize
+    requires { ⌜ mostEventLine ≤ length (now out) ⌝ }
+    ensures { λ r. ⌜ Stored (parseLine parsed) (now (out .entry)) 0 (now (out .exit)) r × (r ≤ length (now (out .entry))) ⌝ }
+{
+    match parsed {
+        Parsed::Length(_) => 0,
+        Parsed::NoDigit(spot) => put_spot(out, spot, b"expected a hexadecimal digit"),
+        Parsed::NoSecond(spot) => {
+            put_spot(
+                out,
+                spot,
+                b"expected one hexadecimal digit more: the text has an odd number of them",
+            )
+        }
+        Parsed::TooLong => word(out, 0, b"the text is longer than 1048576 bytes", LINE_END),
+        Parsed::TooShort => word(out, 0, b"the bytes do not fit the buffer", LINE_END),
+    }
+}

@@ -1,0 +1,70 @@
+-- `any_gathered` meets its contract. The invariant: a lane that is left is gathered where any is.
+use mathlib.Core.Path.{_≡_, refl, sym, _∙_}
+use Prim.Native.Nat.{_-_, _≤_, _<_}
+use lib.ListN.{drop, length}
+use Rattle.lists.specs.Lists.{any}
+use Rattle.line.specs.Line.{idleLane, isGathered, mostLanes, on}
+use Rattle.lists.proofs.Loops.{any-end, any-here, any-more}
+use borrow.Author.Needs.{needs}
+use Rattle.lane_tests.proofs.tallies.any_gathered.Statement.{statement}
+use Rattle.lane_tests.proofs.tallies.any_gathered.Tie as tie
+
+abbrev Inv-loop : tie.InvT-loop
+Inv-loop lane i₀ i = any (on isGathered) (drop i lane) ≡ any (on isGathered) lane
+
+abbrev μ-loop : tie.MeasureT-loop
+μ-loop lane i₀ i = mostLanes - i
+
+loop-holds : tie.Need-loop-holds Inv-loop μ-loop
+loop-holds c = refl
+
+mul-l : tie.Need-mul-l Inv-loop μ-loop
+mul-l c = search needs
+
+array-copy-out-l : tie.Need-array-copy-out-l Inv-loop μ-loop
+array-copy-out-l c = search needs
+
+is-gathered-requires : tie.Need-is-gathered-requires Inv-loop μ-loop
+is-gathered-requires c κs = search needs
+
+returns : tie.Need-returns Inv-loop μ-loop
+returns c =
+    let loop = c .before .before .before .before in
+    let lane = loop .before .args .t1 in
+    let room : loop .loop .i < length lane = search needs in
+    sym (any-here (on isGathered) lane (loop .loop .i) idleLane room (sym (c .before .is-gathered .ensures) ∙ c .if1 .taken)) ∙ loop .loop .inv
+
+add-i : tie.Need-add-i Inv-loop μ-loop
+add-i c = search needs
+
+loop-less : tie.Need-loop-less Inv-loop μ-loop
+loop-less c = search needs
+
+loop-again : tie.Need-loop-again Inv-loop μ-loop
+loop-again c =
+    let loop = c .before .before .before .before in
+    let lane = loop .before .args .t1 in
+    let room : loop .loop .i < length lane = search needs in
+    sym (any-more (on isGathered) lane (loop .loop .i) idleLane room (sym (c .before .is-gathered .ensures) ∙ c .if1 .left)) ∙ loop .loop .inv
+
+returns-2 : tie.Need-returns-2 Inv-loop μ-loop
+returns-2 c =
+    let lane = c .before .before .args .t1 in
+    let past : length lane ≤ c .before .loop .i = search needs in
+    sym (any-end (on isGathered) lane (c .before .loop .i) idleLane past) ∙ c .before .loop .inv
+
+pub any-gathered-spec : {M : Type 1} → statement M
+any-gathered-spec =
+    tie.close
+    (tie.spec
+    Inv-loop
+    μ-loop
+    loop-holds
+    mul-l
+    array-copy-out-l
+    is-gathered-requires
+    returns
+    add-i
+    loop-less
+    loop-again
+    returns-2)

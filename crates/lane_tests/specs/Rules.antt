@@ -1,0 +1,30 @@
+-- The rules of a single lane by their names, and the counts over all lanes.
+use mathlib.Core.Bool.{Bool}
+use mathlib.Core.List.{List}
+use lib.Dec.{eqb}
+use Rattle.lists.specs.Lists.{count}
+use Rattle.line.specs.Line.{flagFor, hasTurn, isGathered, isIdle, isIdleOrGathered, on}
+use Rattle.line.specs.Sound.{gatheredTotal, regionOk, valueOk}
+use Rattle.line.specs.declared.Phase.{Phase}
+use Rattle.line.specs.declared.Lane.{Lane}
+use Rattle.line.specs.declared.Line.{Line}
+use Rattle.lane_tests.specs.declared.rules.Rule.{Rule}
+use Rattle.lane_tests.specs.declared.tallies.Tally.{Tally}
+
+abbrev pub ruleOf : Rule → Line → Phase → Bool
+ruleOf Rule.Idle l x = isIdle x
+ruleOf Rule.IdleOrGathered l x = isIdleOrGathered x
+ruleOf Rule.Value l x = valueOk (l .pointer) x
+ruleOf Rule.Region l x = regionOk l x
+
+abbrev pub isFlagged : Phase → Bool
+isFlagged x = eqb 1 (flagFor x)
+
+abbrev pub tallyOf : List Lane → Tally
+tallyOf ls =
+    record {
+      flagged = count (on isFlagged) ls;
+      turns = count (on hasTurn) ls;
+      gathered = count (on isGathered) ls;
+      total = gatheredTotal ls;
+    }

@@ -1,0 +1,140 @@
+// Tests and counts over all lanes: the flags, the regions, and how many lanes are in which phase.
+ghost use Prim.Native.Nat.{_≤_};
+ghost use mathlib.Core.Path.{_≡_};
+ghost use mathlib.Core.List.{map};
+ghost use lib.ListN.{drop};
+ghost use Rattle.lists.specs.Lists.{all, any, bit, pairwise, sameNumbers};
+ghost use Rattle.line.specs.Line.{flagFor, isGathered, on};
+ghost use Rattle.line.specs.Sound.{apart, apartLanes};
+ghost use Rattle.lane_tests.specs.Rules.{tallyOf};
+use crate::rules;
+use line::Lane;
+use line::MOST_LANES;
+use line::Phase;
+
+// How many lanes are flagged, how many have the turn, how many are gathered, and the gathered total.
+pub struct Tally {
+    pub flagged: usize,
+    pub turns: usize,
+    pub gathered: usize,
+    pub total: u32,
+}
+
+// A test as a number.
+fn one(b: bool) -> usize
+    ensures { λ r. ⌜ (r ≡ bit b) × (r ≤ 1) ⌝ }
+{
+    if b {
+        return 1;
+    }
+    0
+}
+
+// Counts all lanes in one pass.
+pub fn tally_of(lane: [Lane; MOST_LANES]) -> Tally
+    ensures { λ r. ⌜ r ≡ tallyOf lane ⌝ }
+{
+    let mut flagged: usize = 0;
+    let mut turns: usize = 0;
+    let mut gathered: usize = 0;
+    let mut total: u32 = 0;
+    let mut i: usize = 0;
+    while i < MOST_LANES {
+        let l = lane[i];
+        let x = l.phase;
+        flagged += one(1 == phase_tests::flag_for(x));
+        turns += one(phase_tests::has_turn(x));
+        gathered += one(phase_tests::is_gathered(x));
+        total += phase_tests::count_in(x) as u32;
+        i += 1;
+    }
+    Tally {
+        flagged,
+        turns,
+        gathered,
+        total,
+    }
+}
+
+// Whether a lane has entered an ordered call.
+pub fn any_gathered(lane: [Lane; MOST_LANES]) -> bool
+    ensures { λ r. ⌜ r ≡ any (on isGathered) lane ⌝ }
+{
+    let mut i: usize = 0;
+    while i < MOST_LANES {
+        let l = lane[i];
+        let phase = l.phase;
+        if phase_tests::is_gathered(phase) {
+            return true;
+        }
+        i += 1;
+    }
+    false
+}
+
+// "A flag is 1 for waiting, woken and holding lanes and no others".
+pub fn flags_ok(flag: [u8; MOST_LANES], lane: [Lane; MOST_LANES]) -> bool
+    ensures { λ r. ⌜ r ≡ sameNumbers flag (map (on flagFor) lane) ⌝ }
+{
+    let mut i: usize = 0;
+    while i < MOST_LANES {
+        let l = lane[i];
+        let x = l.phase;
+        if flag[i] != phase_tests::flag_for(x) {
+            return false;
+        }
+        i += 1;
+    }
+    true
+}
+
+// Whether two lanes have no place in common.
+fn are_apart(x: Phase, y: Phase) -> bool
+    ensures { λ r. ⌜ r ≡ apart x y ⌝ }
+{
+    if !phase_tests::is_busy(x) {
+        return true;
+    }
+    if !phase_tests::is_busy(y) {
+        return true;
+    }
+    if rules::region_end(x) <= rules::region_start(y) {
+        return true;
+    }
+    rules::region_end(y) <= rules::region_start(x)
+}
+
+// Whether a lane has no place in common with those from an index on.
+fn apart_from(x: Phase, lane: [Lane; MOST_LANES], start: usize) -> bool
+    ensures { λ r. ⌜ r ≡ all (on (apart x)) (drop start lane) ⌝ }
+{
+    if !phase_tests::is_busy(x) {
+        return true;
+    }
+    let mut i = start;
+    while i < MOST_LANES {
+        let l = lane[i];
+        let y = l.phase;
+        if !are_apart(x, y) {
+            return false;
+        }
+        i += 1;
+    }
+    true
+}
+
+// ".. and share no place".
+pub fn regions_apart(lane: [Lane; MOST_LANES]) -> bool
+    ensures { λ r. ⌜ r ≡ pairwise apartLanes lane ⌝ }
+{
+    let mut i: usize = 0;
+    while i < MOST_LANES {
+        let l = lane[i];
+        let x = l.phase;
+        if !apart_from(x, lane, i + 1) {
+            return false;
+        }
+        i += 1;
+    }
+    true
+}

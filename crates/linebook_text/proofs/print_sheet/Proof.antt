@@ -1,0 +1,68 @@
+-- `print_sheet` meets its contract.
+use Prim.Native.Nat.{ℕ}
+use mathlib.Core.Path.{_≡_, refl, sym, subst}
+use mathlib.Core.Bool.{true}
+use mathlib.Core.List.{List}
+use lib.Dec.{ltb}
+use lib.ListN.{length}
+use borrow.Author.Tests.{le-leb, le-ltb, lt-ltb, ltb-false}
+use Rattle.lists.proofs.Tests.{by-test}
+use Rattle.answer_text.specs.declared.Printed.{Printed}
+use Rattle.run.specs.Runs.{textFits}
+use Rattle.linebook_text.specs.Whole.{tooLongPrinted}
+use Rattle.linebook_text.proofs.Fresh.{from-unopened}
+use borrow.Author.Needs.{needs}
+use Rattle.linebook_text.proofs.print_sheet.Statement.{statement}
+use Rattle.linebook_text.proofs.print_sheet.Tie as tie
+
+short-fits : (out : List ℕ) → textFits (tooLongPrinted out) (length out) ≡ true
+short-fits out =
+    by-test (ltb (length out) 15) (λ e. rw e) (λ e. rw e (le-leb 15 (length out) (ltb-false (length out) 15 e)))
+
+print-too-long-requires : tie.Need-print-too-long-requires
+print-too-long-requires c κs = search needs
+
+same-length : tie.Need-same-length
+same-length c = search needs
+
+returns : tie.Need-returns
+returns c =
+    let p = c .before .before in
+    let t = p .before .before in
+    let s = t .before .before .before .before in
+    let long = lt-ltb _ _ (t .if1 .taken) in
+    (rw long (p .print-too-long .ensures .0), (rw long refl, (rw long (p .print-too-long .ensures .1), subst (λ (q : Printed). textFits q (length (s .args .out .now)) ≡ true) (sym (p .print-too-long .ensures .0)) (short-fits (s .args .out .now)))))
+
+unopened-requires : tie.Need-unopened-requires
+unopened-requires c κs = search needs
+
+run-requires : tie.Need-run-requires
+run-requires c κs = search needs
+
+same-length-2 : tie.Need-same-length-2
+same-length-2 c = search needs
+
+same-length-3 : tie.Need-same-length-3
+same-length-3 c = search needs
+
+returns-2 : tie.Need-returns-2
+returns-2 c =
+    let r = c .before .before .before .before in
+    let u = r .before .before .before in
+    let e = u .before in
+    let short = le-ltb _ _ (e .if1 .left) in
+    let m = from-unopened _ _ _ _ _ _ _ (u .unopened .ensures) (r .run .ensures) in
+    (rw short (m .answer), (rw short (m .book), (rw short (m .text), m .fits)))
+
+pub print-sheet-spec : {M : Type 1} → statement M
+print-sheet-spec =
+    tie.close
+    (tie.spec
+    print-too-long-requires
+    same-length
+    returns
+    unopened-requires
+    run-requires
+    same-length-2
+    same-length-3
+    returns-2)

@@ -1,0 +1,31 @@
+-- What `linebook` prints of a sheet, in a lent buffer: `linebook` of the crate `printout`, where there is room for it.
+use Prim.Native.Nat.{ℕ}
+use mathlib.Core.Bool.{Bool, cond}
+use mathlib.Core.List.{List}
+use lib.Dec.{ltb}
+use lib.ListN.{length}
+use lib.Seq.{sets}
+use Rattle.steps.specs.State.{fresh}
+use Rattle.printout.specs.Print.{mostSheet}
+use Rattle.printout.specs.Text.{ascii}
+use Rattle.answer_text.specs.declared.Printed.{Printed}
+use Rattle.run.specs.Runs.{leftByRun, printedBy, textIn}
+
+abbrev pub isTooLong : List ℕ → Bool
+isTooLong sheet = ltb mostSheet (length sheet)
+
+-- "else its one line is `sheet too long`", of 15 bytes with its end
+abbrev pub tooLongPrinted : List ℕ → Printed
+tooLongPrinted out = cond (ltb (length out) 15) Printed.TooShort (Printed.Length 15)
+
+abbrev pub tooLongText : List ℕ → List ℕ
+tooLongText out = cond (ltb (length out) 15) out (sets out 0 (ascii "sheet too long\n"))
+
+abbrev pub sheetPrinted : List ℕ → List ℕ → List ℕ → Printed
+sheetPrinted book sheet out = cond (isTooLong sheet) (tooLongPrinted out) (printedBy (fresh book) sheet out)
+
+abbrev pub textOf : List ℕ → List ℕ → List ℕ → List ℕ
+textOf book sheet out = cond (isTooLong sheet) (tooLongText out) (textIn (fresh book) sheet out)
+
+abbrev pub bookOf : List ℕ → List ℕ → List ℕ → List ℕ
+bookOf book sheet out = cond (isTooLong sheet) book (leftByRun (fresh book) sheet out .book)

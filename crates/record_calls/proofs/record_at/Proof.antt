@@ -1,0 +1,54 @@
+-- `record_at` meets its contract: the record's end decides.
+use Prim.Native.Nat.{_+_, _≤_, _<_}
+use mathlib.Core.Path.{_≡_, ap}
+use native.Mathlib.Omega.{arith}
+use borrow.Author.Tests.{le-leb, lt-leb}
+use Rattle.view.specs.View.{recordEnd}
+use Rattle.view.specs.declared.Position.{Position}
+use borrow.Author.Needs.{needs}
+use Rattle.record_calls.proofs.record_at.Statement.{statement}
+use Rattle.record_calls.proofs.record_at.Tie as tie
+
+-- the position as the definition has it
+position-is : (c : tie.After-position-at) →
+    c .position-at .result .0 + 8 ≡ recordEnd (c .before .before .before .before .args .view) (c .before .before .before .before .args .place)
+position-is c = ap (λ (p : Position). p .0 + 8) (c .position-at .ensures .0)
+
+shown-requires : tie.Need-shown-requires
+shown-requires c κs = search needs
+
+cast-position-at : tie.Need-cast-position-at
+cast-position-at c = search needs
+
+position-at-requires : tie.Need-position-at-requires
+position-at-requires c κs = search needs
+
+add-if1 : tie.Need-add-if1
+add-if1 c = search needs
+
+returns : tie.Need-returns
+returns c =
+    let a = c .before .before .before .before .before .args in
+    let past : a .size < recordEnd (a .view) (a .place) = omega (arith, position-is (c .before)) in
+    rw (lt-leb _ _ past)
+
+load-record-requires : tie.Need-load-record-requires
+load-record-requires c κs = search needs
+
+returns-2 : tie.Need-returns-2
+returns-2 c =
+    let a = c .before .before .before .before .before .before .args in
+    let held : recordEnd (a .view) (a .place) ≤ a .size = omega (arith, position-is (c .before .before)) in
+    rw (le-leb _ _ held, ← c .before .before .position-at .ensures .0, c .load-record .ensures)
+
+pub record-at-spec : {M : Type 1} → statement M
+record-at-spec =
+    tie.close
+    (tie.spec
+    shown-requires
+    cast-position-at
+    position-at-requires
+    add-if1
+    returns
+    load-record-requires
+    returns-2)

@@ -1,8 +1,0 @@
--- "A refusal returns its number alone and alters neither the line nor any buffer": the outcome.
-use Prim.Native.Nat.{ℕ}
-use Rattle.line.specs.declared.Line.{Line}
-use Rattle.steps.specs.declared.Answer.{Answer}
-use Rattle.steps.specs.declared.Outcome.{Outcome}
-
-abbrev pub refused : Line → ℕ → Outcome
-refused l k = record { line = l; answer = Answer.Refused k }

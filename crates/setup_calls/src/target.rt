@@ -1,0 +1,39 @@
+// The place that a seek asks for: a signed offset added to a base, exact over the integers.
+ghost use mathlib.Core.Path.{_≡_};
+ghost use lib.IntN.{pos, _+ℤ_};
+ghost use Rattle.setup_calls.specs.Setup.{baseOf, soughtAt};
+use view::Place;
+
+// The place, or the sum is below 0 or above the last place that the pointer takes.
+pub enum Sought {
+    At(Place),
+    Outside,
+}
+
+// "Whence 0: the offset; 1: pointer + offset; 2: size / 8 rounded down, plus offset": what the offset is added to.
+pub fn base(whence: u8, pointer: Place, end: Place) -> Place
+    ensures { λ r. ⌜ r ≡ baseOf whence pointer end ⌝ }
+{
+    if whence == 0 {
+        return Place(0);
+    }
+    if whence == 1 {
+        return pointer;
+    }
+    end
+}
+
+// A place moved by a signed offset, where it stays in the pointer's range.
+pub fn moved_by(base: u32, offset: i32) -> Sought
+    ensures { λ r. ⌜ r ≡ soughtAt (pos base +ℤ offset) ⌝ }
+{
+    let sum = (base as i64) + (offset as i64);
+    if sum < 0 {
+        return Sought::Outside;
+    }
+    if 65536 < sum {
+        return Sought::Outside;
+    }
+    let place = Place(sum as u32);
+    Sought::At(place)
+}

@@ -1,0 +1,49 @@
+-- `receive` meets its contract, phase by phase.
+use mathlib.Core.Path.{ap, sym, _∙_}
+use Rattle.changes.specs.Change.{refusedChange}
+use Rattle.turn_calls.specs.Turns.{receivedBy}
+use Rattle.changes.proofs.Arms.{not-woken}
+use borrow.Author.Needs.{needs}
+use Rattle.turn_calls.proofs.receive.Statement.{statement}
+use Rattle.turn_calls.proofs.receive.Tie as tie
+
+enum-known-phase : tie.Need-enum-known-phase
+enum-known-phase c = search needs
+
+hold-requires : tie.Need-hold-requires
+hold-requires c κs = search needs
+
+enum-told : tie.Need-enum-told
+enum-told c = search needs
+
+refuse-requires : tie.Need-refuse-requires
+refuse-requires c κs = search needs
+
+refuse-requires-2 : tie.Need-refuse-requires-2
+refuse-requires-2 c κs = search needs
+
+returns : tie.Need-returns
+returns c = rw (c .before .before .phase .given .1) (c .hold .ensures)
+
+returns-2 : tie.Need-returns-2
+returns-2 c =
+    let s = c .before .before .before .args .seen in
+    c .refuse .ensures ∙ sym (ap (receivedBy s) (c .before .enum-told .given .1))
+
+returns-3 : tie.Need-returns-3
+returns-3 c =
+    let s = c .before .before .args .seen in
+    c .refuse2 .ensures ∙ sym (not-woken (refusedChange s 13) (refusedChange s 14) _ (s .phase) (c .before .match .keys3))
+
+pub receive-spec : {M : Type 1} → statement M
+receive-spec =
+    tie.close
+    (tie.spec
+    enum-known-phase
+    hold-requires
+    enum-told
+    refuse-requires
+    refuse-requires-2
+    returns
+    returns-2
+    returns-3)

@@ -1,0 +1,34 @@
+-- `take` meets its contract.
+use mathlib.Core.Path.{ap, sym, _∙_}
+use Rattle.changes.specs.Change.{refusedChange}
+use Rattle.turn_calls.specs.Turns.{takenFrom}
+use Rattle.changes.proofs.Arms.{not-holding}
+use borrow.Author.Needs.{needs}
+use Rattle.turn_calls.proofs.take.Statement.{statement}
+use Rattle.turn_calls.proofs.take.Tie as tie
+
+enum-known-phase : tie.Need-enum-known-phase
+enum-known-phase c = search needs
+
+take-by-requires : tie.Need-take-by-requires
+take-by-requires c κs =
+    let told = c .before in
+    rw (told .phase .given .1) at (told .before .before .before .pre)
+
+refuse-requires : tie.Need-refuse-requires
+refuse-requires c κs = search needs
+
+returns : tie.Need-returns
+returns c =
+    let told = c .before .before in
+    let a = told .before .before .before .args in
+    c .take-by .ensures ∙ sym (ap (takenFrom (a .seen) (a .view) (a .flags .now) (a .lane) (a .count)) (told .phase .given .1))
+
+returns-2 : tie.Need-returns-2
+returns-2 c =
+    let s = c .before .before .before .args .seen in
+    c .refuse .ensures ∙ sym (not-holding (refusedChange s 13) _ (s .phase) (c .before .match .keys2))
+
+pub take-spec : {M : Type 1} → statement M
+take-spec =
+    tie.close (tie.spec enum-known-phase take-by-requires refuse-requires returns returns-2)

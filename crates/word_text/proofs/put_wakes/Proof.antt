@@ -1,0 +1,67 @@
+-- `word_text::put_wakes` meets its contract: an arm for each case.
+use native.Mathlib.Omega.{arith}
+use Rattle.printout.specs.Print.{words}
+use borrow.Author.Needs.{needs}
+use Rattle.word_text.proofs.put_wakes.Statement.{statement}
+use Rattle.word_text.proofs.put_wakes.Tie as tie
+
+enum-known-wakes : tie.Need-enum-known-wakes
+enum-known-wakes c = search needs
+
+slice-aggregate-put-one : tie.Need-slice-aggregate-put-one
+slice-aggregate-put-one c = search needs
+
+wide8-requires : tie.Need-wide8-requires
+wide8-requires c κs = search needs
+
+put-one-requires : tie.Need-put-one-requires
+put-one-requires c κs =
+    let told = c .before .before .before .before in
+    rw (c .wide8 .ensures) (rw (told .wakes .given .1) at (told .before .before .before .pre))
+
+enum-told : tie.Need-enum-told
+enum-told c = search needs
+
+slice-aggregate-put-word : tie.Need-slice-aggregate-put-word
+slice-aggregate-put-word c = search needs
+
+put-word-requires : tie.Need-put-word-requires
+unfolding words
+put-word-requires c κs =
+    let told = c .before .before in
+    let room = rw (told .enum-told .given .1) at (told .before .before .before .pre) in
+    omega (arith, room)
+
+same-length : tie.Need-same-length
+same-length c = search needs
+
+returns : tie.Need-returns
+returns c =
+    let call = c .before .before in
+    let wide = call .before in
+    rw (wide .before .before .before .before .wakes .given .1) (rw (wide .wide8 .ensures) at (call .put-one .ensures))
+
+same-length-2 : tie.Need-same-length-2
+same-length-2 c = search needs
+
+returns-2 : tie.Need-returns-2
+unfolding words
+returns-2 c =
+    let call = c .before .before in
+    rw (call .before .before .before .enum-told .given .1) (call .put-word .ensures)
+
+pub put-wakes-spec : {M : Type 1} → statement M
+put-wakes-spec =
+    tie.close
+    (tie.spec
+    enum-known-wakes
+    slice-aggregate-put-one
+    wide8-requires
+    put-one-requires
+    enum-told
+    slice-aggregate-put-word
+    put-word-requires
+    same-length
+    returns
+    same-length-2
+    returns-2)
