@@ -13,7 +13,7 @@ use crate::same::same_line;
 use crate::same::same_view;
 use line::Lane;
 use line::Line;
-use line::MOST_LANES;
+use limits::MOST_LANES;
 use steps::Outcome;
 use view::Block;
 use view::View;

@@ -13,7 +13,8 @@ use Rattle.lists.proofs.Tests.{at-test, by-test}
 use Rattle.line.specs.declared.Lane.{Lane}
 use Rattle.line.specs.declared.Line.{Line}
 use Rattle.line.specs.declared.Phase.{Phase}
-use Rattle.line.specs.Line.{idleLane, isGathered, lane, mostLanes, on}
+use Rattle.limits.specs.Limits.{mostLanes}
+use Rattle.line.specs.Line.{idleLane, isGathered, lane, on}
 use Rattle.line.specs.Sound.{sound}
 use Rattle.view.specs.declared.Place.{Place}
 use Rattle.waitlist.specs.declared.Wakes.{Wakes}

@@ -9,7 +9,8 @@ use Rattle.lists.specs.Lists.{any, implies}
 use Rattle.view.specs.View.{fits}
 use Rattle.view.specs.declared.View.{View}
 use Rattle.line.specs.declared.Line.{Line}
-use Rattle.line.specs.Line.{isGathered, isWriting, mostLanes, mostPointer, on, phaseAt, placeIn}
+use Rattle.limits.specs.Limits.{mostLanes, mostPointer}
+use Rattle.line.specs.Line.{isGathered, isWriting, on, phaseAt, placeIn}
 use Rattle.waitlist.specs.declared.Wakes.{Wakes}
 use Rattle.steps.specs.declared.Answer.{Answer}
 use Rattle.steps.specs.declared.Outcome.{Outcome}

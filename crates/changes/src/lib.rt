@@ -2,12 +2,12 @@
 ghost use Prim.Native.Nat.{_<_};
 ghost use mathlib.Core.Bool.{true};
 ghost use mathlib.Core.Path.{_≡_};
-ghost use Rattle.line.specs.Line.{mostLanes};
+ghost use Rattle.limits.specs.Limits.{mostLanes};
 ghost use Rattle.changes.specs.Change.{entryOf, keptChange, outcomeOf, refusedChange, seenOf, wakesIn};
 use lane_tests::tallies::any_gathered;
 use line::Lane;
 use line::Line;
-use line::MOST_LANES;
+use limits::MOST_LANES;
 use line::Phase;
 use steps::Answer;
 use steps::Outcome;

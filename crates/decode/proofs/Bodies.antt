@@ -7,7 +7,8 @@ use native.Mathlib.Omega.{arith}
 use lib.Dec.{lit<}
 use lib.ListN.{drop, length, length-drop}
 use borrow.Author.Tests.{le-leb, lt-leb}
-use Rattle.event.specs.Event.{bodyLength, eventOf, fieldLengths, isListed, kindOf}
+use Rattle.event.specs.Kinds.{bodyLength, fieldLengths, isListed}
+use Rattle.event.specs.Event.{eventOf, kindOf}
 use Rattle.event.specs.declared.Reading.{Reading}
 use Rattle.event.proofs.ByKind.{by-kind, kind-of-event}
 use Rattle.decode_fields.proofs.InOrder.{Cut, Got}

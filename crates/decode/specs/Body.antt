@@ -2,7 +2,8 @@
 use Prim.Native.Nat.{ℕ, _+_}
 use mathlib.Core.List.{List}
 use lib.ListN.{drop}
-use Rattle.event.specs.Event.{bodyLength, callOf}
+use Rattle.event.specs.Kinds.{bodyLength}
+use Rattle.event.specs.Event.{callOf}
 use Rattle.event.specs.ReadWrite.{readingOf}
 use Rattle.event.specs.declared.Reading.{Reading}
 

@@ -12,7 +12,8 @@ use Rattle.view.specs.declared.Place.{Place}
 use Rattle.line.specs.declared.Purpose.{Purpose}
 use Rattle.line.specs.declared.Phase.{Phase}
 use Rattle.line.specs.declared.Line.{Line}
-use Rattle.line.specs.Line.{hasTurn, isWaiting, mostPointer, phaseAt}
+use Rattle.limits.specs.Limits.{mostPointer}
+use Rattle.line.specs.Line.{hasTurn, isWaiting, phaseAt}
 use Rattle.line.specs.Sound.{sound}
 use Rattle.line.proofs.Phases.{waiting-up}
 use Rattle.line.proofs.Facts.{Facts, sound-of, when-open}

@@ -11,7 +11,8 @@ use borrow.Author.Tests.{leb-true}
 use Rattle.lists.proofs.Tests.{and-right, by-test, clash}
 use Rattle.waitlist.specs.NextLane.{nextLane}
 use Rattle.event.specs.BigEndian.{numberOf}
-use Rattle.event.specs.Event.{Call, bodyLength, cutShort, eventOf, fieldLengths, fieldsIn, given, isListed, kindOf}
+use Rattle.event.specs.Kinds.{bodyLength, fieldLengths, isListed}
+use Rattle.event.specs.Event.{Call, cutShort, eventOf, fieldsIn, given, kindOf}
 use Rattle.event.specs.declared.Event.{Event}
 use Rattle.steps.specs.Answer.{Said, saidBy}
 use Rattle.steps.specs.State.{Result, State}

@@ -9,7 +9,8 @@ use lib.ListN.{drop, length}
 use lib.Seq.{sets, sets-eq}
 use borrow.Author.Tests.{le-leb, lt-leb}
 use Rattle.event.specs.BigEndian.{bigEndian}
-use Rattle.event.specs.Event.{bytesOf, eventBytes, fieldLengths, fieldsOf, isListed, kindOf}
+use Rattle.event.specs.Kinds.{fieldLengths, isListed}
+use Rattle.event.specs.Event.{bytesOf, eventBytes, fieldsOf, kindOf}
 use Rattle.event.specs.ReadWrite.{writingOf, writtenTo}
 use Rattle.event.specs.declared.Event.{Event}
 use Rattle.event.specs.declared.Writing.{Writing}

@@ -2,7 +2,8 @@
 use Prim.Native.Nat.{ℕ, _+_}
 use mathlib.Core.Bool.{cond}
 use mathlib.Core.List.{List, _∷_}
-use Rattle.event.specs.Event.{bodyLength, fieldLengths, fieldsOf, isListed, kindOf}
+use Rattle.event.specs.Kinds.{bodyLength, fieldLengths, isListed}
+use Rattle.event.specs.Event.{fieldsOf, kindOf}
 use Rattle.event.specs.declared.Event.{Event}
 use Rattle.encode_fields.specs.Put.{putFields}
 

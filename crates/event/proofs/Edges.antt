@@ -4,7 +4,8 @@ use mathlib.Core.List.{[], _∷_}
 use lib.IntN.{pos, negsuc}
 use lib.ListN.{replicate}
 use Rattle.event.specs.BigEndian.{bigEndian, numberOf}
-use Rattle.event.specs.Event.{bodyLength, bytesOf, fieldsIn}
+use Rattle.event.specs.Kinds.{bodyLength}
+use Rattle.event.specs.Event.{bytesOf, fieldsIn}
 use Rattle.event.specs.ReadWrite.{readAt, writingOf, writtenTo}
 use Rattle.event.specs.declared.Event.{Event}
 use Rattle.event.specs.declared.Reading.{Reading}

@@ -1,43 +1,15 @@
--- Document 01, "Events": the kinds, the lengths of their bodies' fields, and events read from bytes and written as bytes.
-use Prim.Native.Nat.{ℕ, zero, suc, _+_}
-use mathlib.Core.Bool.{Bool, cond, _&&_}
+-- Document 01, "Events": an event as its kind and fields, read from bytes and written as bytes.
+use Prim.Native.Nat.{ℕ}
+use mathlib.Core.Bool.{cond}
 use mathlib.Core.List.{List, [], _∷_, _++_}
-use lib.ListN.{drop, getD, length, replicate, take}
+use lib.ListN.{drop, getD, length, take}
 use lib.Dec.{leb}
-use Rattle.lists.specs.Lists.{sumOf}
-use Rattle.view.specs.View.{block, place}
+use lib.IntN.{ℤ, pos}
 use Rattle.view.specs.declared.Block.{Block}
-use Rattle.view.specs.declared.View.{View}
-use Rattle.event.specs.BigEndian.{bigEndian, numberOf, signed, unsigned}
+use Rattle.event.specs.BigEndian.{bigEndian, numberOf, unsigned}
+use Rattle.event.specs.Kinds.{bodyLength, fieldLengths, isListed, kindAt}
 use Rattle.event.specs.declared.Blocks.{Blocks}
 use Rattle.event.specs.declared.Event.{Event}
-
--- the lengths in bytes of the fields of each kind's body, for the kinds 01 to 0C
-abbrev pub bodies : List (List ℕ)
-bodies =
-    (1 ∷ 4 ∷ [])  -- 01 open: lanes 1, capacity 4
-    ∷ (1 ∷ 1 ∷ [])  -- 02 want: lane 1, purpose 1
-    ∷ (1 ∷ [])  -- 03 receive: lane 1
-    ∷ (1 ∷ 2 ∷ [])  -- 04 take: lane 1, count 2
-    ∷ (1 ∷ 8 ∷ [])  -- 05 write: lane 1, record 8
-    ∷ (1 ∷ [])  -- 06 read: lane 1
-    ∷ (1 ∷ 4 ∷ 8 ∷ [])  -- 07 put: lane 1, place 4, record 8
-    ∷ (1 ∷ 4 ∷ [])  -- 08 look: lane 1, place 4
-    ∷ (1 ∷ [])  -- 09 free: lane 1
-    ∷ (1 ∷ 2 ∷ [])  -- 0A enter: lane 1, count 2
-    ∷ (4 ∷ 2 ∷ 1 ∷ replicate 16 2)  -- 0B view: displacement 4, extent 2, blocks 1, eight times (start 2, length 2)
-    ∷ (1 ∷ 4 ∷ [])  -- 0C seek: whence 1, signed offset 4
-    ∷ []
-
-abbrev pub isListed : ℕ → Bool
-isListed kind = leb 0x01 kind && leb kind 0x0C
-
-abbrev pub fieldLengths : ℕ → List ℕ
-fieldLengths zero = []
-fieldLengths (suc k) = getD bodies k []
-
-abbrev pub bodyLength : ℕ → ℕ
-bodyLength kind = sumOf (λ (n : ℕ). n) (fieldLengths kind)
 
 -- ---- fields as bytes
 -- fields of the given lengths, one after the other
@@ -89,40 +61,25 @@ fieldsOf (Event.View displacement extent used blocks) = displacement ∷ extent 
 fieldsOf (Event.Seek whence offset) = whence ∷ unsigned offset ∷ []
 fieldsOf Event.Unlisted = []
 
--- the eight blocks of kind 0B: its fields 3 to 18
-abbrev pub blocksAt : (ℕ → ℕ) → Blocks
-blocksAt v =
-    record {
-      b0 = block (v 3) (v 4);
-      b1 = block (v 5) (v 6);
-      b2 = block (v 7) (v 8);
-      b3 = block (v 9) (v 10);
-      b4 = block (v 11) (v 12);
-      b5 = block (v 13) (v 14);
-      b6 = block (v 15) (v 16);
-      b7 = block (v 17) (v 18);
-    }
+-- the signed field of a seek; 0 for the others
+abbrev pub offsetIn : Event → ℤ
+offsetIn (Event.Open lanes capacity) = pos 0
+offsetIn (Event.Want lane purpose) = pos 0
+offsetIn (Event.Receive lane) = pos 0
+offsetIn (Event.Take lane count) = pos 0
+offsetIn (Event.Write lane content) = pos 0
+offsetIn (Event.Read lane) = pos 0
+offsetIn (Event.Put lane k content) = pos 0
+offsetIn (Event.Look lane k) = pos 0
+offsetIn (Event.Free lane) = pos 0
+offsetIn (Event.Enter lane count) = pos 0
+offsetIn (Event.View displacement extent used blocks) = pos 0
+offsetIn (Event.Seek whence offset) = offset
+offsetIn Event.Unlisted = pos 0
 
--- the event of each listed kind, with v k for its k-th field
-abbrev pub events : (ℕ → ℕ) → List Event
-events v =
-    Event.Open (v 0) (v 1)
-    ∷ Event.Want (v 0) (v 1)
-    ∷ Event.Receive (v 0)
-    ∷ Event.Take (v 0) (v 1)
-    ∷ Event.Write (v 0) (v 1)
-    ∷ Event.Read (v 0)
-    ∷ Event.Put (v 0) (place (v 1)) (v 2)
-    ∷ Event.Look (v 0) (place (v 1))
-    ∷ Event.Free (v 0)
-    ∷ Event.Enter (v 0) (v 1)
-    ∷ Event.View (v 0) (v 1) (v 2) (blocksAt v)
-    ∷ Event.Seek (v 0) (signed (v 1))
-    ∷ []
-
+-- the event of a kind with these fields
 abbrev pub eventOf : ℕ → List ℕ → Event
-eventOf zero fields = Event.Unlisted
-eventOf (suc kind) fields = getD (events (λ (k : ℕ). getD fields k 0)) kind Event.Unlisted
+eventOf kind fields = kindAt kind .event (λ (k : ℕ). getD fields k 0)
 
 -- ---- reading
 -- what a kind and the bytes after it say: an event, one of an unlisted kind included, or a listed kind whose body is cut short

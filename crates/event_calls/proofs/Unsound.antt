@@ -8,7 +8,8 @@ use Rattle.line.specs.declared.Line.{Line}
 use Rattle.line.specs.Sound.{sound}
 use Rattle.waitlist.specs.NextLane.{nextLane}
 use Rattle.lists.proofs.Tests.{by-test, clash}
-use Rattle.event.specs.Event.{Call, cutShort, given, isListed, kindOf}
+use Rattle.event.specs.Kinds.{isListed}
+use Rattle.event.specs.Event.{Call, cutShort, given, kindOf}
 use Rattle.event.specs.ReadWrite.{readingOf}
 use Rattle.event.specs.declared.Cursor.{Cursor}
 use Rattle.event.specs.declared.Reading.{Reading}

@@ -7,7 +7,7 @@ use native.Mathlib.Omega.{arith}
 use lib.ListN.{length}
 use Rattle.view.specs.declared.View.{View}
 use Rattle.line.specs.declared.Line.{Line}
-use Rattle.line.specs.Line.{mostLanes}
+use Rattle.limits.specs.Limits.{mostLanes}
 use Rattle.line.specs.Sound.{sound}
 use Rattle.event.specs.declared.Event.{Event}
 use Rattle.steps.specs.declared.Answer.{Answer}

@@ -7,6 +7,7 @@ use changes::Change;
 use changes::Seen;
 use changes::refuse;
 use event::Event;
+use limits::MOST_LANES;
 use view::View;
 
 // What an event can change: one lane, with the line's numbers and the lane that it wakes, or the whole line.
@@ -37,7 +38,7 @@ pub fn scope_of(event: Event) -> Scope
 }
 
 // What a call of the kinds 02 to 09 changes past the tests of its lane; a record that is put is stored in the book. No other kind is asked of it, so that its last arm is never reached.
-fn decide_at(seen: Seen, view: View, flags: &[u8], book: &mut [u8], event: Event) -> Change
+fn decide_at(seen: Seen, view: View, flags: &[u8; MOST_LANES], book: &mut [u8], event: Event) -> Change
     requires { ⌜ Within seen view (length (now book)) ⌝ }
     ensures is { λ r. ⌜ r ≡ decidedAt seen view (now (flags .entry)) (now (book .entry)) event ⌝ }
     ensures book { λ r. ⌜ now (book .exit) ≡ bookDecided event (now (book .entry)) (r .answer) ⌝ }
@@ -74,7 +75,7 @@ pub fn decide(
     seen: Seen,
     lane: u8,
     view: View,
-    flags: &[u8],
+    flags: &[u8; MOST_LANES],
     book: &mut [u8],
     event: Event,
 ) -> Change

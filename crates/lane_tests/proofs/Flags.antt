@@ -7,7 +7,8 @@ use native.Mathlib.Omega.{arith}
 use lib.ListN.{drop, getD, length, length-map, List·getD-map}
 use Rattle.lists.specs.Lists.{sameNumbers}
 use Rattle.lists.proofs.Loops.{same-end, same-more, same-stop}
-use Rattle.line.specs.Line.{flagFor, idleLane, mostLanes, on}
+use Rattle.limits.specs.Limits.{mostLanes}
+use Rattle.line.specs.Line.{flagFor, idleLane, on}
 use Rattle.line.specs.declared.Lane.{Lane}
 
 module _ (flags : List ℕ) (ls : List Lane) (i : ℕ) (flags-length : length flags ≡ mostLanes) (lanes-length : length ls ≡ mostLanes) where

@@ -7,7 +7,7 @@ ghost use Rattle.line.specs.Line.{on, placeIn};
 ghost use Rattle.line.specs.Sound.{regionEnd, regionOk, valueOk};
 ghost use Rattle.lane_tests.specs.Rules.{ruleOf};
 use line::Line;
-use line::MOST_LANES;
+use limits::MOST_LANES;
 use line::Phase;
 use view::Place;
 

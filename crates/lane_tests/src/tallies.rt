@@ -9,7 +9,7 @@ ghost use Rattle.line.specs.Sound.{apart, apartLanes};
 ghost use Rattle.lane_tests.specs.Rules.{tallyOf};
 use crate::rules;
 use line::Lane;
-use line::MOST_LANES;
+use limits::MOST_LANES;
 use line::Phase;
 
 // How many lanes are flagged, how many have the turn, how many are gathered, and the gathered total.

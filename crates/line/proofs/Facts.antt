@@ -17,7 +17,8 @@ use Rattle.view.specs.View.{fits, viewOk}
 use Rattle.line.specs.declared.Phase.{Phase}
 use Rattle.line.specs.declared.Lane.{Lane}
 use Rattle.line.specs.declared.Line.{Line}
-use Rattle.line.specs.Line.{flagFor, hasTurn, idleLane, isGathered, isIdle, isIdleOrGathered, isWaiting, mostLanes, mostPointer, on, phaseAt, Shaped}
+use Rattle.limits.specs.Limits.{mostLanes, mostPointer}
+use Rattle.line.specs.Line.{flagFor, hasTurn, idleLane, isGathered, isIdle, isIdleOrGathered, isWaiting, on, phaseAt, Shaped}
 use Rattle.line.specs.Sound.{apart, apartLanes, busyOk, flagsOk, gatheredOk, gatheredTotal, numbersOk, openNumbers, pastOk, regionOk, sound, turnOk, valueOk}
 use Rattle.line.proofs.Phases.{apart-idle, apart-sym, idle-is, isUp, no-value, up-kinds, up-one}
 

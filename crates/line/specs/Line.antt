@@ -3,27 +3,13 @@ use Prim.Native.Nat.{ℕ}
 use mathlib.Core.Bool.{Bool, true, false, not, _&&_}
 use lib.ListN.{getD, length, replicate}
 use mathlib.Core.Path.{_≡_}
+use Rattle.limits.specs.Limits.{mostBlocks, mostLanes}
 use Rattle.view.specs.View.{place, plainView}
 use Rattle.view.specs.declared.Place.{Place}
 use Rattle.line.specs.declared.Purpose.{Purpose}
 use Rattle.line.specs.declared.Phase.{Phase}
 use Rattle.line.specs.declared.Lane.{Lane}
 use Rattle.line.specs.declared.Line.{Line}
-
--- "N is 1 to 64"; the functions' array lengths are held to this number by the contract of `Line::unopened`
-abbrev pub mostLanes : ℕ
-mostLanes = 64
-
--- "The capacity is 8 to 65,536 bytes"
-abbrev pub leastCapacity : ℕ
-leastCapacity = 8
-
-abbrev pub mostCapacity : ℕ
-mostCapacity = 65536
-
--- "The pointer is a place, 0 to 65,536"
-abbrev pub mostPointer : ℕ
-mostPointer = 65536
 
 -- ---- purposes
 abbrev pub isSharedWrite : Purpose → Bool
@@ -164,4 +150,4 @@ unopened =
 pub record Shaped (l : Line) : Type 0 where
   pub lanes-length : length (l .lane) ≡ mostLanes
   pub flags-length : length (l .flag) ≡ mostLanes
-  pub blocks-length : length (l .view .block) ≡ 8
+  pub blocks-length : length (l .view .block) ≡ mostBlocks

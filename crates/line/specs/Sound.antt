@@ -10,7 +10,8 @@ use Rattle.view.specs.declared.Place.{Place}
 use Rattle.line.specs.declared.Phase.{Phase}
 use Rattle.line.specs.declared.Lane.{Lane}
 use Rattle.line.specs.declared.Line.{Line}
-use Rattle.line.specs.Line.{countIn, flagFor, hasTurn, isBusy, isGathered, isIdle, isIdleOrGathered, isWriting, leastCapacity, leftIn, mostCapacity, mostLanes, mostPointer, on, placeIn}
+use Rattle.limits.specs.Limits.{leastCapacity, mostCapacity, mostLanes, mostPointer}
+use Rattle.line.specs.Line.{countIn, flagFor, hasTurn, isBusy, isGathered, isIdle, isIdleOrGathered, isWriting, leftIn, on, placeIn}
 
 -- "An unopened line has N, capacity, size and pointer 0, and the plain view"
 abbrev pub unopenedNumbers : Line → Bool

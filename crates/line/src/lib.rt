@@ -1,11 +1,9 @@
 // The line: its lanes with their phases, the flags, the shared pointer and the view.
 ghost use mathlib.Core.Path.{_≡_};
 ghost use Rattle.line.specs.Line.{idleLane, unopened};
+use limits::MOST_LANES;
 use view::Place;
 use view::View;
-
-// The most lanes that a line has.
-pub const MOST_LANES: usize = 64;
 
 // What a lane wants the book for.
 pub enum Purpose {

@@ -6,7 +6,7 @@ use lib.Dec.{ltb}
 use lib.ListN.{length}
 use lib.Seq.{sets}
 use Rattle.steps.specs.State.{fresh}
-use Rattle.printout.specs.Print.{mostSheet}
+use Rattle.limits.specs.Limits.{mostSheet}
 use Rattle.printout.specs.Text.{ascii}
 use Rattle.answer_text.specs.declared.Printed.{Printed}
 use Rattle.run.specs.Runs.{leftByRun, printedBy, textIn}

@@ -4,14 +4,12 @@ ghost use mathlib.Core.Path.{_≡_};
 ghost use lib.ListN.{length};
 ghost use Rattle.run.specs.Runs.{textFits};
 ghost use Rattle.linebook_text.specs.Whole.{bookOf, sheetPrinted, textOf, tooLongPrinted, tooLongText};
+use limits::MOST_SHEET;
 use line::Line;
 use answer_text::Printed;
 use run::run;
 use word_text::LINE_END;
 use word_text::put_word;
-
-// The longest sheet.
-pub const MOST_SHEET: usize = 65536;
 
 // One line, for a sheet that is too long.
 fn print_too_long(out: &mut [u8]) -> Printed

@@ -11,7 +11,8 @@ use Rattle.lists.proofs.Tests.{by-test}
 use Rattle.view.specs.View.{fits}
 use Rattle.view.proofs.Laws.{fits-low}
 use Rattle.line.specs.declared.Line.{Line}
-use Rattle.line.specs.Line.{Shaped, isGathered, isIdle, isIdleOrGathered, mostPointer, on, phaseAt}
+use Rattle.limits.specs.Limits.{mostPointer}
+use Rattle.line.specs.Line.{Shaped, isGathered, isIdle, isIdleOrGathered, on, phaseAt}
 use Rattle.line.specs.Sound.{gatheredTotal, sound}
 use Rattle.line.proofs.Facts.{good-of, when-open}
 use Rattle.waitlist.specs.NextLane.{nextLane}

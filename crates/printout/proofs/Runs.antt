@@ -13,7 +13,8 @@ use Rattle.view.specs.declared.Place.{Place}
 use Rattle.line.specs.Line.{phaseAt, placeIn}
 use Rattle.line.specs.Sound.{sound}
 use Rattle.waitlist.specs.NextLane.{nextLane}
-use Rattle.event.specs.Event.{given, isListed, kindOf}
+use Rattle.event.specs.Kinds.{isListed}
+use Rattle.event.specs.Event.{given, kindOf}
 use Rattle.event.specs.ReadWrite.{readAt}
 use Rattle.event.specs.declared.Cursor.{Cursor}
 use Rattle.event.specs.declared.Event.{Event}

@@ -4,6 +4,7 @@ use mathlib.Core.Bool.{cond}
 use mathlib.Core.List.{List, [], _∷_, _++_}
 use lib.ListN.{length, replicate}
 use lib.Dec.{ltb, leb}
+use Rattle.limits.specs.Limits.{mostCapacity, mostSheet}
 use Rattle.view.specs.declared.Place.{Place}
 use Rattle.waitlist.specs.declared.Wakes.{Wakes}
 use Rattle.steps.specs.State.{State, fresh}
@@ -74,11 +75,8 @@ abbrev pub printed : Ran → List ℕ
 printed r = answerLines 0 (r .answers) ++ endLine (r .after)
 
 -- ---- `linebook`: an unopened line and a book of 65,536 bytes
-abbrev pub mostSheet : ℕ
-mostSheet = 65536
-
 abbrev pub freshState : State
-freshState = fresh (replicate 65536 0)
+freshState = fresh (replicate mostCapacity 0)
 
 -- "(at most 65,536 bytes, else its one line is `sheet too long`)"
 unfoldable pub linebook : List ℕ → List ℕ

@@ -9,7 +9,8 @@ use Rattle.view.specs.View.{fits}
 use Rattle.view.specs.declared.Place.{Place}
 use Rattle.line.specs.declared.Line.{Line}
 use Rattle.line.specs.declared.Phase.{Phase}
-use Rattle.line.specs.Line.{holdsWhole, idleLane, isReading, isWriting, mostLanes, phaseAt}
+use Rattle.limits.specs.Limits.{mostLanes}
+use Rattle.line.specs.Line.{holdsWhole, idleLane, isReading, isWriting, phaseAt}
 use Rattle.line.specs.Sound.{sound}
 use Rattle.waitlist.specs.NextLane.{nextLane}
 use Rattle.event.specs.declared.Event.{Event}

@@ -8,7 +8,8 @@ use borrow.Author.Tests.{ltb-true}
 use Rattle.lists.specs.Lists.{any}
 use Rattle.line.specs.declared.Line.{Line}
 use Rattle.line.specs.declared.Phase.{Phase}
-use Rattle.line.specs.Line.{isGathered, mostLanes, on, phaseAt}
+use Rattle.limits.specs.Limits.{mostLanes}
+use Rattle.line.specs.Line.{isGathered, on, phaseAt}
 use Rattle.line.specs.Sound.{sound}
 use Rattle.waitlist.specs.declared.Wakes.{Wakes}
 use Rattle.event.specs.declared.Event.{Event}

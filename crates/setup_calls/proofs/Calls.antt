@@ -13,7 +13,8 @@ use Rattle.view.specs.View.{endOfBook, place, viewOk}
 use Rattle.view.specs.declared.Place.{Place}
 use Rattle.view.specs.declared.View.{View}
 use Rattle.line.specs.declared.Line.{Line}
-use Rattle.line.specs.Line.{isIdle, mostLanes, on}
+use Rattle.limits.specs.Limits.{mostLanes}
+use Rattle.line.specs.Line.{isIdle, on}
 use Rattle.line.specs.Sound.{sound}
 use Rattle.waitlist.specs.NextLane.{nextLane}
 use Rattle.event.specs.declared.Blocks.{Blocks}

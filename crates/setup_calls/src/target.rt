@@ -2,6 +2,7 @@
 ghost use mathlib.Core.Path.{_≡_};
 ghost use lib.IntN.{pos, _+ℤ_};
 ghost use Rattle.setup_calls.specs.Setup.{baseOf, soughtAt};
+use limits::MOST_POINTER;
 use view::Place;
 
 // The place, or the sum is below 0 or above the last place that the pointer takes.
@@ -31,7 +32,7 @@ pub fn moved_by(base: u32, offset: i32) -> Sought
     if sum < 0 {
         return Sought::Outside;
     }
-    if 65536 < sum {
+    if (MOST_POINTER as i64) < sum {
         return Sought::Outside;
     }
     let place = Place(sum as u32);

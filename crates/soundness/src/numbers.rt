@@ -3,16 +3,11 @@ ghost use mathlib.Core.Path.{_≡_};
 ghost use Rattle.view.specs.View.{isPlain};
 ghost use Rattle.line.specs.Sound.{numbersOk, openNumbers, unopenedNumbers};
 use line::Line;
-use line::MOST_LANES;
+use limits::LEAST_CAPACITY;
+use limits::MOST_CAPACITY;
+use limits::MOST_LANES;
+use limits::MOST_POINTER;
 use view::View;
-
-// "The capacity is 8 to 65,536 bytes".
-const LEAST_CAPACITY: u32 = 8;
-
-const MOST_CAPACITY: u32 = 65536;
-
-// "The pointer is a place, 0 to 65,536".
-const MOST_POINTER: u32 = 65536;
 
 // A number of lanes as an index.
 pub fn index(lanes: u8) -> usize

@@ -12,7 +12,8 @@ use Rattle.view.specs.View.{fits, viewOk}
 use Rattle.view.specs.declared.Place.{Place}
 use Rattle.line.specs.declared.Purpose.{Purpose}
 use Rattle.line.specs.declared.Phase.{Phase}
-use Rattle.line.specs.Line.{holdsShared, holdsWhole, isGathered, isHolding, isIdle, isIdleOrGathered, isSharedRead, isSharedWrite, isWholeBook, leftIn, mostLanes, mostPointer, on, phaseAt, placeIn, purposeIn}
+use Rattle.limits.specs.Limits.{mostLanes, mostPointer}
+use Rattle.line.specs.Line.{holdsShared, holdsWhole, isGathered, isHolding, isIdle, isIdleOrGathered, isSharedRead, isSharedWrite, isWholeBook, leftIn, on, phaseAt, placeIn, purposeIn}
 use Rattle.line.specs.Sound.{gatheredTotal}
 use Rattle.line.proofs.Phases.{holding-is, idle-is, reading-is, woken-is, writing-is}
 use Rattle.event.specs.Event.{Call, cutShort, given}

@@ -8,7 +8,8 @@ use lib.Dec.{eqb, leb, ltb}
 use Rattle.lists.specs.Lists.{all, any}
 use Rattle.view.specs.View.{fits, viewOk}
 use Rattle.view.specs.declared.Place.{Place}
-use Rattle.line.specs.Line.{holdsShared, holdsWhole, isGathered, isIdle, isIdleOrGathered, isReading, isSharedRead, isSharedWrite, isWaiting, isWoken, isWriting, mostLanes, mostPointer, on, phaseAt, placeIn, purposeIn}
+use Rattle.limits.specs.Limits.{mostLanes, mostPointer}
+use Rattle.line.specs.Line.{holdsShared, holdsWhole, isGathered, isIdle, isIdleOrGathered, isReading, isSharedRead, isSharedWrite, isWaiting, isWoken, isWriting, on, phaseAt, placeIn, purposeIn}
 use Rattle.line.specs.Sound.{gatheredTotal, sound}
 use Rattle.event.specs.Event.{cutShort, given}
 use Rattle.event.specs.declared.Blocks.{Blocks}

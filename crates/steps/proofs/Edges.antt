@@ -20,7 +20,8 @@ use Rattle.line.specs.declared.Purpose.{Purpose}
 use Rattle.line.specs.declared.Phase.{Phase}
 use Rattle.line.specs.declared.Lane.{Lane}
 use Rattle.line.specs.declared.Line.{Line}
-use Rattle.line.specs.Line.{countIn, idleLane, isGathered, isIdle, isWaiting, isWoken, lane, mostPointer, on, phaseAt, placeIn}
+use Rattle.limits.specs.Limits.{mostPointer}
+use Rattle.line.specs.Line.{countIn, idleLane, isGathered, isIdle, isWaiting, isWoken, lane, on, phaseAt, placeIn}
 use Rattle.line.specs.Sound.{gatheredTotal, sound}
 use Rattle.waitlist.specs.NextLane.{firstRaised, nextLane}
 use Rattle.waitlist.specs.declared.Wakes.{Wakes}

@@ -21,7 +21,8 @@ use Rattle.line.specs.declared.Purpose.{Purpose}
 use Rattle.line.specs.declared.Phase.{Phase}
 use Rattle.line.specs.declared.Lane.{Lane}
 use Rattle.line.specs.declared.Line.{Line}
-use Rattle.line.specs.Line.{flagFor, hasTurn, idleLane, isBusy, isGathered, isIdle, isWriting, lane, leftIn, mostLanes, mostPointer, on, phaseAt, placeIn, Shaped, unopened}
+use Rattle.limits.specs.Limits.{mostLanes, mostPointer}
+use Rattle.line.specs.Line.{flagFor, hasTurn, idleLane, isBusy, isGathered, isIdle, isWriting, lane, leftIn, on, phaseAt, placeIn, Shaped, unopened}
 use Rattle.line.specs.Sound.{apart, gatheredTotal, numbersOk, regionEnd, regionOk, sound, valueOk}
 use Rattle.line.proofs.Phases.{flag-down, isUp, no-overlap, no-region, no-value, one-up}
 use Rattle.line.proofs.Facts.{Facts, Good, OpenNumbers, good-of, open-ok, sound-of, when-open}

@@ -13,7 +13,8 @@ use Rattle.lists.proofs.Tests.{both, by-test, clash}
 use Rattle.view.specs.View.{recordEnd}
 use Rattle.view.specs.declared.Place.{Place}
 use Rattle.line.specs.Line.{phaseAt, placeIn}
-use Rattle.event.specs.Event.{Call, cutShort, given, isListed, kindOf}
+use Rattle.event.specs.Kinds.{isListed}
+use Rattle.event.specs.Event.{Call, cutShort, given, kindOf}
 use Rattle.event.specs.declared.Event.{Event}
 use Rattle.steps.specs.Answer.{saidBy}
 use Rattle.steps.specs.State.{Result, State}

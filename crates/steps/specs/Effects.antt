@@ -14,7 +14,8 @@ use Rattle.line.specs.declared.Purpose.{Purpose}
 use Rattle.line.specs.declared.Phase.{Phase}
 use Rattle.line.specs.declared.Lane.{Lane}
 use Rattle.line.specs.declared.Line.{Line}
-use Rattle.line.specs.Line.{countIn, idleLane, isGathered, lane, mostLanes, on, phaseAt, placeIn, purposeIn}
+use Rattle.limits.specs.Limits.{mostLanes}
+use Rattle.line.specs.Line.{countIn, idleLane, isGathered, lane, on, phaseAt, placeIn, purposeIn}
 use Rattle.line.specs.Sound.{gatheredTotal}
 use Rattle.waitlist.specs.declared.Wakes.{Wakes}
 use Rattle.event.specs.BigEndian.{bigEndian, numberOf}

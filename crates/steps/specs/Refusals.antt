@@ -9,9 +9,11 @@ use Rattle.lists.specs.Lists.{all, any}
 use Rattle.view.specs.View.{fits, viewOk}
 use Rattle.view.specs.declared.Place.{Place}
 use Rattle.line.specs.declared.Phase.{Phase}
-use Rattle.line.specs.Line.{holdsShared, holdsWhole, isGathered, isIdle, isIdleOrGathered, isReading, isSharedRead, isSharedWrite, isWaiting, isWoken, isWriting, leastCapacity, mostCapacity, mostLanes, mostPointer, on, phaseAt, placeIn, purposeIn}
+use Rattle.limits.specs.Limits.{leastCapacity, mostCapacity, mostLanes, mostPointer}
+use Rattle.line.specs.Line.{holdsShared, holdsWhole, isGathered, isIdle, isIdleOrGathered, isReading, isSharedRead, isSharedWrite, isWaiting, isWoken, isWriting, on, phaseAt, placeIn, purposeIn}
 use Rattle.line.specs.Sound.{gatheredTotal, sound}
-use Rattle.event.specs.Event.{Call, cutShort, fieldsOf, given, isListed, kindOf}
+use Rattle.event.specs.Kinds.{isListed}
+use Rattle.event.specs.Event.{Call, cutShort, fieldsOf, given, kindOf}
 use Rattle.event.specs.declared.Event.{Event}
 use Rattle.steps.specs.State.{State}
 use Rattle.steps.specs.Effects.{entered, seekTarget, viewOf}

@@ -12,7 +12,8 @@ use Rattle.view.specs.declared.Place.{Place}
 use Rattle.view.specs.declared.View.{View}
 use Rattle.line.specs.declared.Phase.{Phase}
 use Rattle.line.specs.declared.Purpose.{Purpose}
-use Rattle.line.specs.Line.{holdsWhole, isGathered, isIdle, mostLanes, mostPointer}
+use Rattle.limits.specs.Limits.{mostLanes, mostPointer}
+use Rattle.line.specs.Line.{holdsWhole, isGathered, isIdle}
 use Rattle.steps.specs.declared.Answer.{Answer}
 use Rattle.changes.specs.Change.{refusedChange}
 use Rattle.changes.specs.declared.Seen.{Seen}

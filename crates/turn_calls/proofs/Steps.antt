@@ -12,7 +12,8 @@ use Rattle.view.specs.declared.Place.{Place}
 use Rattle.line.specs.declared.Line.{Line}
 use Rattle.line.specs.declared.Phase.{Phase}
 use Rattle.line.specs.declared.Purpose.{Purpose}
-use Rattle.line.specs.Line.{holdsShared, holdsWhole, isGathered, isIdle, isSharedRead, isSharedWrite, isWaiting, isWoken, mostLanes, mostPointer, on, phaseAt, placeIn, purposeIn}
+use Rattle.limits.specs.Limits.{mostLanes, mostPointer}
+use Rattle.line.specs.Line.{holdsShared, holdsWhole, isGathered, isIdle, isSharedRead, isSharedWrite, isWaiting, isWoken, on, phaseAt, placeIn, purposeIn}
 use Rattle.line.specs.Sound.{sound}
 use Rattle.waitlist.specs.NextLane.{nextLane}
 use Rattle.event.specs.declared.Event.{Event}

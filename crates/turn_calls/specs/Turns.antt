@@ -10,7 +10,8 @@ use Rattle.view.specs.declared.Place.{Place}
 use Rattle.view.specs.declared.View.{View}
 use Rattle.line.specs.declared.Purpose.{Purpose}
 use Rattle.line.specs.declared.Phase.{Phase}
-use Rattle.line.specs.Line.{byPhase, holdsWhole, isIdle, mostPointer, placeIn, purposeIn}
+use Rattle.limits.specs.Limits.{mostPointer}
+use Rattle.line.specs.Line.{byPhase, holdsWhole, isIdle, placeIn, purposeIn}
 use Rattle.waitlist.specs.NextLane.{nextLane}
 use Rattle.waitlist.specs.declared.Wakes.{Wakes}
 use Rattle.steps.specs.declared.Answer.{Answer}

@@ -1,7 +1,8 @@
 // The calls 02 want, 03 receive, 04 take and 09 free as changes, by a lane of an open line (`lane_calls` gives 4 and 8): the tests in the order of the refusals, then what the call does.
 ghost use Prim.Native.Nat.{_≤_};
 ghost use mathlib.Core.Path.{_≡_};
-ghost use Rattle.line.specs.Line.{mostPointer, placeIn};
+ghost use Rattle.limits.specs.Limits.{mostPointer};
+ghost use Rattle.line.specs.Line.{placeIn};
 ghost use Rattle.turn_calls.specs.Turns.{freeChange, movedTo, receiveChange, releasedTo, takeChange, takenChange, takenBy, takenToRead, takenToWrite, wantChange, wanted};
 use changes::Change;
 use changes::Seen;
@@ -9,15 +10,14 @@ use changes::phases::purpose_of;
 use changes::phases::to_read;
 use changes::phases::to_write;
 use changes::refuse;
+use limits::MOST_LANES;
+use limits::MOST_POINTER;
 use line::Phase;
 use line::Purpose;
 use steps::Answer;
 use view::Place;
 use view::View;
 use waitlist::Wakes;
-
-// The most that the pointer can be.
-const MOST_POINTER: u64 = 65536;
 
 // A lane raises its flag: where all others are 0 it holds, with the pointer, and else it waits.
 fn raise(seen: Seen, alone: bool, purpose: Purpose) -> Change
@@ -45,7 +45,7 @@ fn raise(seen: Seen, alone: bool, purpose: Purpose) -> Change
 }
 
 // 02: an idle lane asks for the book.
-pub fn want(seen: Seen, flags: &[u8], lane: u8, purpose: u8) -> Change
+pub fn want(seen: Seen, flags: &[u8; MOST_LANES], lane: u8, purpose: u8) -> Change
     ensures { λ r. ⌜ r ≡ wantChange seen (now (flags .entry)) lane purpose ⌝ }
 {
     if 2 < purpose {
@@ -107,7 +107,7 @@ fn release(seen: Seen, answer: Answer, phase: Phase, pointer: Place, wakes: Wake
 }
 
 // A region of `count` records from a place: the pointer moves past it, and the lane releases.
-fn take_region(seen: Seen, flags: &[u8], lane: u8, start: Place, count: u16, phase: Phase) -> Change
+fn take_region(seen: Seen, flags: &[u8; MOST_LANES], lane: u8, start: Place, count: u16, phase: Phase) -> Change
     requires { ⌜ start .0 ≤ mostPointer ⌝ }
     ensures { λ r. ⌜ r ≡ takenChange seen (now (flags .entry)) lane start count phase ⌝ }
 {
@@ -122,7 +122,7 @@ fn take_region(seen: Seen, flags: &[u8], lane: u8, start: Place, count: u16, pha
 }
 
 // The take of a shared write, whose records must fit.
-fn take_to_write(seen: Seen, view: View, flags: &[u8], lane: u8, start: Place, count: u16) -> Change
+fn take_to_write(seen: Seen, view: View, flags: &[u8; MOST_LANES], lane: u8, start: Place, count: u16) -> Change
     requires { ⌜ start .0 ≤ mostPointer ⌝ }
     ensures { λ r. ⌜ r ≡ takenToWrite seen view (now (flags .entry)) lane start count ⌝ }
 {
@@ -133,11 +133,11 @@ fn take_to_write(seen: Seen, view: View, flags: &[u8], lane: u8, start: Place, c
 }
 
 // The take of a shared read, which may run past the capacity; the pointer must stay in its range.
-fn take_to_read(seen: Seen, flags: &[u8], lane: u8, start: Place, count: u16) -> Change
+fn take_to_read(seen: Seen, flags: &[u8; MOST_LANES], lane: u8, start: Place, count: u16) -> Change
     requires { ⌜ start .0 ≤ mostPointer ⌝ }
     ensures { λ r. ⌜ r ≡ takenToRead seen (now (flags .entry)) lane start count ⌝ }
 {
-    if MOST_POINTER < start.0 as u64 + count as u64 {
+    if (MOST_POINTER as u64) < start.0 as u64 + count as u64 {
         return refuse(seen, 15);
     }
     take_region(seen, flags, lane, start, count, to_read(count, start))
@@ -147,7 +147,7 @@ fn take_to_read(seen: Seen, flags: &[u8], lane: u8, start: Place, count: u16) ->
 fn take_by(
     seen: Seen,
     view: View,
-    flags: &[u8],
+    flags: &[u8; MOST_LANES],
     lane: u8,
     purpose: Purpose,
     start: Place,
@@ -164,7 +164,7 @@ fn take_by(
 }
 
 // 04: a holder for a shared purpose takes a region and releases.
-pub fn take(seen: Seen, view: View, flags: &[u8], lane: u8, count: u16) -> Change
+pub fn take(seen: Seen, view: View, flags: &[u8; MOST_LANES], lane: u8, count: u16) -> Change
     requires { ⌜ placeIn (seen .phase) .0 ≤ mostPointer ⌝ }
     ensures { λ r. ⌜ r ≡ takeChange seen view (now (flags .entry)) lane count ⌝ }
 {
@@ -176,7 +176,7 @@ pub fn take(seen: Seen, view: View, flags: &[u8], lane: u8, count: u16) -> Chang
 }
 
 // 09: a holder of the whole book releases; the pointer is unchanged and carried by the wake.
-pub fn free(seen: Seen, flags: &[u8], lane: u8) -> Change
+pub fn free(seen: Seen, flags: &[u8; MOST_LANES], lane: u8) -> Change
     ensures { λ r. ⌜ r ≡ freeChange seen (now (flags .entry)) lane ⌝ }
 {
     let phase = seen.phase;

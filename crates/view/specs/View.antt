@@ -5,6 +5,7 @@ use mathlib.Core.List.{List, [], _∷_}
 use lib.ListN.{take, drop, replicate}
 use lib.Dec.{leb, ltb, eqb}
 use Rattle.lists.specs.Lists.{all, every, sumOf}
+use Rattle.limits.specs.Limits.{mostBlocks, mostExtent}
 use Rattle.view.specs.declared.Block.{Block}
 use Rattle.view.specs.declared.Place.{Place}
 use Rattle.view.specs.declared.Position.{Position}
@@ -52,9 +53,9 @@ viewOk capacity v =
     every
     (leb (v .displacement) capacity
     ∷ leb 1 (v .extent)
-    ∷ leb (v .extent) 1024
+    ∷ leb (v .extent) mostExtent
     ∷ leb 1 (v .used)
-    ∷ leb (v .used) 8
+    ∷ leb (v .used) mostBlocks
     ∷ inOrder (v .extent) 0 (usedBlocks v)
     ∷ all isUnused (unusedBlocks v)
     ∷ [])

@@ -2,8 +2,11 @@
 ghost use mathlib.Core.Path.{_≡_};
 ghost use Prim.Native.Nat.{ℕ, _≤_, _<_, min};
 ghost use lib.ListN.{take, drop};
+ghost use Rattle.limits.specs.Limits.{mostBlocks};
 ghost use Rattle.lists.specs.Lists.{all, sumOf};
 ghost use Rattle.view.specs.View.{place, isUnused, inOrder, viewOk, shown, blockRecord, positionOf, fits, endOfBook};
+use limits::MOST_BLOCKS;
+use limits::MOST_EXTENT;
 
 // A place counts records as the view shows them (MPI-IO: an offset in etypes).
 pub struct Place(pub u32);
@@ -22,7 +25,7 @@ pub struct View {
     pub displacement: u32,
     pub extent: u16,
     pub used: u8,
-    pub block: [Block; 8],
+    pub block: [Block; MOST_BLOCKS],
 }
 
 impl Block {
@@ -67,13 +70,13 @@ impl View {
         if extent < 1 {
             return false;
         }
-        if 1024 < extent {
+        if MOST_EXTENT < extent {
             return false;
         }
         if used < 1 {
             return false;
         }
-        if 8 < used {
+        if (MOST_BLOCKS as u8) < used {
             return false;
         }
         if !in_order(block, used as usize, extent) {
@@ -132,19 +135,20 @@ impl View {
     }
 }
 
-// How many of the 8 blocks are in use: a number above 8, which no rule allows, reaches all of them.
+// How many of the blocks are in use: a number above the most, which no rule allows, reaches all of them.
 fn used_count(used: u8) -> usize
-    ensures { λ r. ⌜ r ≡ min used 8 ⌝ }
+    ensures { λ r. ⌜ r ≡ min used mostBlocks ⌝ }
 {
-    if used < 8 {
-        return used as usize;
+    let count = used as usize;
+    if count < MOST_BLOCKS {
+        return count;
     }
-    8
+    MOST_BLOCKS
 }
 
 // The sum of the first blocks' lengths.
-fn sum_of_lengths(block: [Block; 8], count: usize) -> u32
-    requires { ⌜ count ≤ 8 ⌝ }
+fn sum_of_lengths(block: [Block; MOST_BLOCKS], count: usize) -> u32
+    requires { ⌜ count ≤ mostBlocks ⌝ }
     ensures { λ r. ⌜ r ≡ sumOf (λ b. b .length) (take count block) ⌝ }
 {
     let mut sum: u32 = 0;
@@ -158,8 +162,8 @@ fn sum_of_lengths(block: [Block; 8], count: usize) -> u32
 }
 
 // The q-th record of the first blocks, counted from the tile's start.
-fn block_record(block: [Block; 8], count: usize, q: u64) -> u64
-    requires { ⌜ count ≤ 8 ⌝ }
+fn block_record(block: [Block; MOST_BLOCKS], count: usize, q: u64) -> u64
+    requires { ⌜ count ≤ mostBlocks ⌝ }
     ensures { λ r. ⌜ (r ≡ blockRecord (take count block) q) × (r ≤ 131070) ⌝ }
 {
     let mut left = q;
@@ -177,8 +181,8 @@ fn block_record(block: [Block; 8], count: usize, q: u64) -> u64
 }
 
 // Whether the first blocks hold a record each, do not overlap and end within the extent.
-fn in_order(block: [Block; 8], count: usize, extent: u16) -> bool
-    requires { ⌜ count ≤ 8 ⌝ }
+fn in_order(block: [Block; MOST_BLOCKS], count: usize, extent: u16) -> bool
+    requires { ⌜ count ≤ mostBlocks ⌝ }
     ensures { λ r. ⌜ r ≡ inOrder extent 0 (take count block) ⌝ }
 {
     let mut end: u32 = 0;
@@ -198,11 +202,11 @@ fn in_order(block: [Block; 8], count: usize, extent: u16) -> bool
 }
 
 // Whether the blocks from an index on are zero.
-fn all_unused(block: [Block; 8], from: usize) -> bool
+fn all_unused(block: [Block; MOST_BLOCKS], from: usize) -> bool
     ensures { λ r. ⌜ r ≡ all isUnused (drop from block) ⌝ }
 {
     let mut i = from;
-    while i < 8 {
+    while i < MOST_BLOCKS {
         let b = block[i];
         if b.start != 0 {
             return false;

@@ -5,6 +5,7 @@ ghost use lib.Dec.{eqb};
 ghost use lib.ListN.{getD, set};
 ghost use Rattle.lists.specs.Lists.{all};
 ghost use Rattle.waitlist.specs.NextLane.{firstRaised, nextLane};
+use limits::MOST_LANES;
 
 // The lane that a release wakes, if a lane waits.
 pub enum Wakes {
@@ -39,11 +40,10 @@ fn flag_but(flags: &[u8], i: usize, own: usize) -> u8
     flag_at(flags, i)
 }
 
-// Whether all flags but the lane's own are 0.
-pub fn others_down(flags: &[u8], lane: u8) -> bool
-    ensures { λ r. ⌜ r ≡ all (eqb 0) (set (now (flags .entry)) lane 0) ⌝ }
+// Whether all flags of a row but one are 0.
+fn down_but(flags: &[u8], own: usize) -> bool
+    ensures { λ r. ⌜ r ≡ all (eqb 0) (set (now (flags .entry)) own 0) ⌝ }
 {
-    let own = index(lane);
     let mut i: usize = 0;
     while i < flags.len() {
         if flag_but(flags, i, own) != 0 {
@@ -52,6 +52,13 @@ pub fn others_down(flags: &[u8], lane: u8) -> bool
         i += 1;
     }
     true
+}
+
+// Whether all flags but the lane's own are 0.
+pub fn others_down(flags: &[u8; MOST_LANES], lane: u8) -> bool
+    ensures { λ r. ⌜ r ≡ all (eqb 0) (set (now (flags .entry)) lane 0) ⌝ }
+{
+    down_but(flags, index(lane))
 }
 
 // The first flagged lane from start up to, and not including, end.
@@ -81,7 +88,7 @@ fn least(a: usize, b: usize) -> usize
 
 // The next lane once the releaser's flag is down: the first flagged one after the releaser, upwards, then from 0 up to it.
 // The releaser's own flag is not looked at, so that it does not matter whether it is down yet.
-pub fn next_lane(lanes: u8, flags: &[u8], releaser: u8) -> Wakes
+pub fn next_lane(lanes: u8, flags: &[u8; MOST_LANES], releaser: u8) -> Wakes
     ensures { λ r. ⌜ r ≡ nextLane lanes (set (now (flags .entry)) releaser 0) releaser ⌝ }
 {
     let end = index(lanes);

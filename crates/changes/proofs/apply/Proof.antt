@@ -1,7 +1,7 @@
 -- `apply` meets its contract.
 use Prim.Native.Nat.{_<_}
 use borrow.Author.Tests.{ltb-true}
-use Rattle.line.specs.Line.{mostLanes}
+use Rattle.limits.specs.Limits.{mostLanes}
 use borrow.Author.Needs.{needs}
 use Rattle.changes.proofs.apply.Statement.{statement}
 use Rattle.changes.proofs.apply.Tie as tie

@@ -2,7 +2,8 @@
 use Prim.Native.Nat.{_+_}
 use mathlib.Core.Path.{sym, _∙_}
 use borrow.Author.Needs.{needs}
-use Rattle.event.specs.Event.{bodyLength, callOf}
+use Rattle.event.specs.Kinds.{bodyLength}
+use Rattle.event.specs.Event.{callOf}
 use Rattle.decode.specs.Body.{bodyAt}
 use Rattle.event_calls.proofs.Unsound.{event-call, never-end, refused-call}
 use Rattle.event_calls.proofs.call_bytes.Statement.{statement}

@@ -34,14 +34,14 @@ returns c =
     let s = c .before .before .before in
     let start = s .before .before .before .before in
     let a = start .args in
-    rw (next-lowered (a .lanes) (a .flags .now) (a .releaser), ← s .before .before .index .ensures, ← s .before .index2 .ensures, ← s .first-raised .ensures, c .before .above .given .1)
+    rw (next-lowered (a .lanes) (a .flags .now) (a .releaser), ← s .before .before .before .index .ensures, ← s .before .before .index2 .ensures, ← s .first-raised .ensures, c .before .above .given .1)
 
 returns-2 : tie.Need-returns-2
 returns-2 c =
-    let s = c .before .before .before .before in
+    let s = c .before .before .before .before .before in
     let start = s .before .before .before .before in
     let a = start .args in
-    rw (next-lowered (a .lanes) (a .flags .now) (a .releaser), ← s .before .before .index .ensures, ← s .before .index2 .ensures, ← s .first-raised .ensures, c .before .before .enum-told .given .1, ← c .before .least .ensures)
+    rw (next-lowered (a .lanes) (a .flags .now) (a .releaser), ← s .before .before .before .index .ensures, ← s .before .before .index2 .ensures, ← s .first-raised .ensures, c .before .before .before .enum-told .given .1, ← c .before .least .ensures)
     (rw sub-zero at (c .first-raised2 .ensures))
 
 pub next-lane-spec : {M : Type 1} → statement M

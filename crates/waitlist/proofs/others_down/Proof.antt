@@ -1,76 +1,16 @@
--- `others_down` meets its contract. The invariant: the flags that are left are down where all are.
-use Prim.Native.Nat.{_-_, _≤_, _<_}
-use mathlib.Core.Path.{_≡_, refl, sym, _∙_}
-use native.Mathlib.Omega.{arith}
-use lib.Dec.{eqb}
-use lib.ListN.{drop, length, set, length-set}
-use borrow.Author.Tests.{eq-eqb, ne-eqb}
-use Rattle.lists.specs.Lists.{all}
-use Rattle.lists.proofs.Loops.{all-end, all-more, all-stop}
+-- `others_down` meets its contract, by that of `down_but` at the lane's index.
 use borrow.Author.Needs.{needs}
 use Rattle.waitlist.proofs.others_down.Statement.{statement}
 use Rattle.waitlist.proofs.others_down.Tie as tie
 
-abbrev Inv-loop : tie.InvT-loop
-Inv-loop flags lane own i₀ i = (own ≡ lane) × (all (eqb 0) (drop i (set flags lane 0)) ≡ all (eqb 0) (set flags lane 0))
-
-abbrev μ-loop : tie.MeasureT-loop
-μ-loop flags lane own i₀ i = length flags - i
-
-index-requires : tie.Need-index-requires Inv-loop μ-loop
+index-requires : tie.Need-index-requires
 index-requires c κs = search needs
 
-loop-holds : tie.Need-loop-holds Inv-loop μ-loop
-loop-holds c = (c .index .ensures, refl)
+down-but-requires : tie.Need-down-but-requires
+down-but-requires c κs = search needs
 
-flag-but-requires : tie.Need-flag-but-requires Inv-loop μ-loop
-flag-but-requires c κs = search needs
-
-returns : tie.Need-returns Inv-loop μ-loop
-returns c =
-    let loop = c .before .before .before in
-    let a = loop .before .before .before .args in
-    let inv = loop .loop .inv in
-    let down = set (a .flags .now) (a .lane) 0 in
-    let room : loop .loop .i < length down = omega (arith, length-set (a .flags .now) (a .lane) 0, c .before .before .loop-test .taken) in
-    let flag = rw (inv .0) at (c .before .flag-but .ensures) in
-    sym (all-stop (eqb 0) down (loop .loop .i) 0 room (ne-eqb _ _ (λ e. c .if1 .taken (flag ∙ sym e)))) ∙ inv .1
-
-add-i : tie.Need-add-i Inv-loop μ-loop
-add-i c = search needs
-
-loop-less : tie.Need-loop-less Inv-loop μ-loop
-loop-less c = search needs
-
-loop-again : tie.Need-loop-again Inv-loop μ-loop
-loop-again c =
-    let loop = c .before .before .before in
-    let a = loop .before .before .before .args in
-    let inv = loop .loop .inv in
-    let down = set (a .flags .now) (a .lane) 0 in
-    let room : loop .loop .i < length down = omega (arith, length-set (a .flags .now) (a .lane) 0, c .before .before .loop-test .taken) in
-    let flag = rw (inv .0) at (c .before .flag-but .ensures) in
-    (inv .0, sym (all-more (eqb 0) down (loop .loop .i) 0 room (eq-eqb _ _ (sym (c .if1 .left) ∙ flag))) ∙ inv .1)
-
-returns-2 : tie.Need-returns-2 Inv-loop μ-loop
-returns-2 c =
-    let a = c .before .before .before .before .args in
-    let inv = c .before .loop .inv in
-    let down = set (a .flags .now) (a .lane) 0 in
-    let past : length down ≤ c .before .loop .i = omega (arith, length-set (a .flags .now) (a .lane) 0, c .loop-test .left) in
-    sym (all-end (eqb 0) down (c .before .loop .i) 0 past) ∙ inv .1
+returns : tie.Need-returns
+returns c = rw (← c .before .index .ensures) (c .down-but .ensures)
 
 pub others-down-spec : {M : Type 1} → statement M
-others-down-spec =
-    tie.close
-    (tie.spec
-    Inv-loop
-    μ-loop
-    index-requires
-    loop-holds
-    flag-but-requires
-    returns
-    add-i
-    loop-less
-    loop-again
-    returns-2)
+others-down-spec = tie.close (tie.spec index-requires down-but-requires returns)

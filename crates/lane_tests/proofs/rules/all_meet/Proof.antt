@@ -6,7 +6,8 @@ use lib.ListN.{drop, length}
 use borrow.Author.Tests.{not-false, not-true}
 use Rattle.lists.specs.Lists.{all}
 use Rattle.lists.proofs.Loops.{all-end, all-more, all-stop}
-use Rattle.line.specs.Line.{idleLane, mostLanes, on}
+use Rattle.limits.specs.Limits.{mostLanes}
+use Rattle.line.specs.Line.{idleLane, on}
 use Rattle.lane_tests.specs.Rules.{ruleOf}
 use Rattle.lists.proofs.Parts.{length-unmapped}
 use borrow.Author.Needs.{needs}

@@ -3,7 +3,8 @@ use mathlib.Core.Path.{_≡_, refl, sym, _∙_}
 use Prim.Native.Nat.{_-_, _≤_, _<_}
 use lib.ListN.{drop, length}
 use Rattle.lists.specs.Lists.{any}
-use Rattle.line.specs.Line.{idleLane, isGathered, mostLanes, on}
+use Rattle.limits.specs.Limits.{mostLanes}
+use Rattle.line.specs.Line.{idleLane, isGathered, on}
 use Rattle.lists.proofs.Loops.{any-end, any-here, any-more}
 use borrow.Author.Needs.{needs}
 use Rattle.lane_tests.proofs.tallies.any_gathered.Statement.{statement}

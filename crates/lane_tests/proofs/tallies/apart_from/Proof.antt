@@ -7,7 +7,8 @@ use borrow.Author.Tests.{not-false, not-true}
 use Rattle.lists.specs.Lists.{all}
 use Rattle.lists.proofs.Loops.{all-end, all-more, all-stop}
 use Rattle.lists.proofs.Maps.{all-true}
-use Rattle.line.specs.Line.{idleLane, isBusy, mostLanes, on}
+use Rattle.limits.specs.Limits.{mostLanes}
+use Rattle.line.specs.Line.{idleLane, isBusy, on}
 use Rattle.line.specs.Sound.{apart}
 use borrow.Author.Needs.{needs}
 use Rattle.lane_tests.proofs.tallies.apart_from.Statement.{statement}

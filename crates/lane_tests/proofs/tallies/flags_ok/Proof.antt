@@ -4,7 +4,8 @@ use Prim.Native.Nat.{_-_}
 use mathlib.Core.List.{map}
 use lib.ListN.{drop, length}
 use Rattle.lists.specs.Lists.{sameNumbers}
-use Rattle.line.specs.Line.{flagFor, mostLanes, on}
+use Rattle.limits.specs.Limits.{mostLanes}
+use Rattle.line.specs.Line.{flagFor, on}
 use Rattle.lane_tests.proofs.Flags.{flags-end, flags-more, flags-stop}
 use borrow.Author.Needs.{needs}
 use Rattle.lane_tests.proofs.tallies.flags_ok.Statement.{statement}

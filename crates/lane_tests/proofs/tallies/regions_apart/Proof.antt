@@ -5,7 +5,8 @@ use lib.ListN.{drop, length}
 use borrow.Author.Tests.{not-false, not-true}
 use Rattle.lists.specs.Lists.{pairwise}
 use Rattle.lists.proofs.Loops.{pairwise-end, pairwise-more, pairwise-stop}
-use Rattle.line.specs.Line.{idleLane, mostLanes}
+use Rattle.limits.specs.Limits.{mostLanes}
+use Rattle.line.specs.Line.{idleLane}
 use Rattle.line.specs.Sound.{apartLanes}
 use borrow.Author.Needs.{needs}
 use Rattle.lane_tests.proofs.tallies.regions_apart.Statement.{statement}

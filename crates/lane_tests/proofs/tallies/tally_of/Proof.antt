@@ -5,7 +5,8 @@ use native.Mathlib.Omega.{arith}
 use lib.ListN.{drop, length}
 use Rattle.lists.specs.Lists.{count, sumOf}
 use Rattle.lists.proofs.Loops.{count-end, count-more, sum-end, sum-more}
-use Rattle.line.specs.Line.{countIn, hasTurn, idleLane, isGathered, mostLanes, on}
+use Rattle.limits.specs.Limits.{mostLanes}
+use Rattle.line.specs.Line.{countIn, hasTurn, idleLane, isGathered, on}
 use Rattle.lane_tests.specs.Rules.{isFlagged}
 use borrow.Author.Needs.{needs}
 use Rattle.lane_tests.proofs.tallies.tally_of.Statement.{statement}

@@ -3,7 +3,7 @@ use mathlib.Core.Path.{_≡_, sym, _∙_}
 use mathlib.Core.Bool.{and-true, true}
 use lib.Dec.{leb}
 use borrow.Author.Tests.{le-leb, lt-leb, not-false, not-true}
-use Rattle.line.specs.Line.{mostLanes, mostPointer}
+use Rattle.limits.specs.Limits.{mostLanes, mostPointer}
 use Rattle.line.specs.declared.Line.{Line}
 use borrow.Author.Needs.{needs}
 use Rattle.soundness.proofs.numbers.open_numbers.Statement.{statement}

@@ -20,8 +20,8 @@ narrow c = le-leb _ _ (c .if3 .left)
 in-use : (c : tie.Else4) → leb 1 (c .before .before .before .before .before .before .args .self .used) ≡ true
 in-use c = le-leb _ _ (c .if4 .left)
 
-lanes-fit : (c : tie.Else5) → leb (c .before .before .before .before .before .before .before .args .self .used) 8 ≡ true
-lanes-fit c = le-leb _ _ (c .if5 .left)
+blocks-fit : (c : tie.Else5) → leb (c .before .before .before .before .before .before .before .args .self .used) 8 ≡ true
+blocks-fit c = le-leb _ _ (c .if5 .left)
 
 returns : tie.Need-returns
 unfolding viewOk
@@ -39,6 +39,9 @@ returns-4 : tie.Need-returns-4
 unfolding viewOk
 returns-4 c = rw (low (c .before .before .before), some (c .before .before), narrow (c .before), lt-leb _ _ (c .if4 .taken))
 
+cast-if5 : tie.Need-cast-if5
+cast-if5 c = search needs
+
 returns-5 : tie.Need-returns-5
 unfolding viewOk
 returns-5 c = rw (low (c .before .before .before .before), some (c .before .before .before), narrow (c .before .before), in-use (c .before), lt-leb _ _ (c .if5 .taken))
@@ -55,7 +58,7 @@ returns-6 c =
     let e5 = c .before .before in
     let e4 = e5 .before in
     let e3 = e4 .before in
-    rw (low (e3 .before .before), some (e3 .before), narrow e3, in-use e4, lanes-fit e5, sym (c .before .in-order .ensures) ∙ not-true _ (c .if6 .taken))
+    rw (low (e3 .before .before), some (e3 .before), narrow e3, in-use e4, blocks-fit e5, sym (c .before .in-order .ensures) ∙ not-true _ (c .if6 .taken))
 
 cast-all-unused : tie.Need-cast-all-unused
 cast-all-unused c = search needs
@@ -74,7 +77,7 @@ returns-7 c =
       some (e3 .before),
       narrow e3,
       in-use e4,
-      lanes-fit e5,
+      blocks-fit e5,
       sym (c .before .before .in-order .ensures) ∙ not-false _ (c .before .if6 .left),
       and-true,
     )
@@ -88,6 +91,7 @@ is-ok-spec =
     returns-2
     returns-3
     returns-4
+    cast-if5
     returns-5
     cast-in-order
     in-order-requires
