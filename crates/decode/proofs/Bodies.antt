@@ -1,16 +1,16 @@
--- What the fields that were read, or one that was cut short, make of a body; and a kind that is none of the twelve.
+-- What the fields that were read, or one that was cut short, make of a body; and a kind that is none of the table's.
 use Prim.Native.Nat.{ℕ, _-_, _≤_, _<_}
 use mathlib.Core.Path.{_≡_, refl, sym}
-use mathlib.Core.Bool.{Bool, true, false}
+use mathlib.Core.Bool.{true, false}
 use mathlib.Core.List.{List}
 use native.Mathlib.Omega.{arith}
-use lib.Dec.{lit<}
 use lib.ListN.{drop, length, length-drop}
 use borrow.Author.Tests.{le-leb, lt-leb}
 use Rattle.event.specs.Kinds.{bodyLength, fieldLengths, isListed}
 use Rattle.event.specs.Event.{eventOf, kindOf}
 use Rattle.event.specs.declared.Reading.{Reading}
-use Rattle.event.proofs.ByKind.{by-kind, kind-of-event}
+use Rattle.lists.proofs.Tests.{by-test}
+use Rattle.event.proofs.ByKind.{EachKind, by-kind, kind-of-event}
 use Rattle.decode_fields.proofs.InOrder.{Cut, Got}
 use Rattle.decode.specs.Body.{bodyAt}
 
@@ -23,26 +23,17 @@ body-read {vs} {sheet} {at} {end} kind k g =
     let listed : isListed (kindOf (eventOf kind vs)) ≡ true = rw (kind-of-event kind vs k) k in
     sym (rw (k, le-leb (bodyLength kind) (length (drop at sheet)) room, g .numbers, listed, g .past))
 
-body-positive : (kind : ℕ) → isListed kind ≡ true → 0 < bodyLength kind
-body-positive kind k =
-    by-kind (λ (n : ℕ). 0 < bodyLength n) (lit< tt) (lit< tt) (lit< tt) (lit< tt) (lit< tt) (lit< tt) (lit< tt) (lit< tt) (lit< tt) (lit< tt) (lit< tt) (lit< tt) kind k
-
-pub body-cut : {sheet : List ℕ} {at : ℕ} (kind : ℕ) → isListed kind ≡ true → Cut (fieldLengths kind) sheet at
+-- a body that has a byte at least
+pub body-cut : {sheet : List ℕ} {at : ℕ} (kind : ℕ) → isListed kind ≡ true → 0 < bodyLength kind → Cut (fieldLengths kind) sheet at
     → Reading.Refused 3 ≡ bodyAt kind sheet at
 unfolding bodyAt
-body-cut {sheet} {at} kind k s =
-    let less : length (drop at sheet) < bodyLength kind = simp length-drop (omega (arith, s .ends, body-positive kind k)) in
+body-cut {sheet} {at} kind k some s =
+    let less : length (drop at sheet) < bodyLength kind = simp length-drop (omega (arith, s .ends)) in
     sym (rw (k, lt-leb (bodyLength kind) (length (drop at sheet)) less))
 
--- ---- a kind that is none of the twelve
-pub none-listed : (kind : ℕ) → (kind ≡ 1 → ⊥) → (kind ≡ 2 → ⊥) → (kind ≡ 3 → ⊥) → (kind ≡ 4 → ⊥) → (kind ≡ 5 → ⊥) → (kind ≡ 6 → ⊥)
-    → (kind ≡ 7 → ⊥) → (kind ≡ 8 → ⊥) → (kind ≡ 9 → ⊥) → (kind ≡ 10 → ⊥) → (kind ≡ 11 → ⊥) → (kind ≡ 12 → ⊥)
-    → isListed kind ≡ false
-none-listed kind a b c d e f g h i j k l = by-test (isListed kind) refl
-  where
-    by-test : (t : Bool) → isListed kind ≡ t → t ≡ false
-    by-test true q = absurd (by-kind (λ (n : ℕ). kind ≡ n → ⊥) a b c d e f g h i j k l kind q refl)
-    by-test false q = refl
+-- ---- a kind that is none of the table's
+pub none-listed : (kind : ℕ) → EachKind (λ (n : ℕ). kind ≡ n → ⊥) → isListed kind ≡ false
+none-listed kind each = by-test (isListed kind) (λ t. absurd (by-kind (λ (n : ℕ). kind ≡ n → ⊥) each kind t refl)) (λ f. f)
 
 pub body-unlisted : (kind : ℕ) (sheet : List ℕ) (at : ℕ) → isListed kind ≡ false → Reading.Refused 2 ≡ bodyAt kind sheet at
 unfolding bodyAt

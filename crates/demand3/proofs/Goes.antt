@@ -1,12 +1,13 @@
 -- Where a lane waits, one lane has the turn, and its next call would be accepted.
-use Prim.Native.Nat.{ℕ, zero, suc, _+_, _<_}
-use mathlib.Core.Path.{_≡_, refl, sym, ap, _∙_}
-use mathlib.Core.Bool.{Bool, true, false}
-use mathlib.Core.List.{List, [], _∷_}
+use Prim.Native.Nat.{ℕ, _+_, _<_}
+use mathlib.Core.Path.{_≡_, refl, sym}
+use mathlib.Core.Bool.{true, false}
+use mathlib.Core.List.{[], _∷_}
 use native.Mathlib.Omega.{arith}
-use lib.ListN.{getD, length, replicate}
+use lib.ListN.{length}
 use lib.Dec.{eqb, leb, ltb}
 use borrow.Author.Tests.{le-ltb, lt-leb, ne-eqb}
+use Rattle.lists.specs.Lists.{any}
 use Rattle.lists.proofs.Tests.{clash}
 use Rattle.view.specs.declared.Place.{Place}
 use Rattle.line.specs.declared.Purpose.{Purpose}
@@ -26,8 +27,9 @@ use Rattle.steps.specs.State.{State}
 use Rattle.steps.specs.Refusals.{reasons}
 use Rattle.steps.specs.Step.{stepBy}
 use Rattle.steps.proofs.Keeps.{GoodState, holding-value}
-use Rattle.steps.proofs.Lowest.{none-accepts}
-use Rattle.demand3.specs.Claim.{callIn, nextCall, release, saidTo, woken}
+use Rattle.steps.proofs.CheckingOrder.{applying, none-accepts, none-applies}
+use Rattle.trace.specs.Trace.{callIn, saidTo}
+use Rattle.demand3.specs.Claim.{nextCall, release, woken}
 use Rattle.demand3.proofs.Status.{statusOf}
 use Rattle.demand3.proofs.Turn.{same-turn, turn-found, turn-up, up-count, up-inside}
 
@@ -53,11 +55,6 @@ unfolding fieldsIn
 free-call h = rw (one-byte h)
 
 -- ---- no reason applies
-none-at : (m n : ℕ) → getD (replicate m false) n false ≡ false
-none-at zero n = refl
-none-at (suc m) zero = refl
-none-at (suc m) (suc n) = none-at m n
-
 module _ (x : State) (G : GoodState x) (h : ℕ) (inside : h < x .line .lanes) where
   is-sound : sound (x .line) (length (x .book)) ≡ true
   is-sound = sound-of (x .line) (length (x .book)) G
@@ -68,8 +65,8 @@ module _ (x : State) (G : GoodState x) (h : ℕ) (inside : h < x .line .lanes) w
   a-lane : leb (x .line .lanes) h ≡ false
   a-lane = lt-leb (x .line .lanes) h inside
 
-  accepted-by : (e : Event) → reasons x (given e) ≡ replicate 16 false → saidBy (stepBy nextLane x (given e) .answer) .accepted ≡ true
-  accepted-by e q = none-accepts nextLane x (given e) (λ n. ap (λ (bs : List Bool). getD bs n false) q ∙ none-at 16 n)
+  accepted-by : (e : Event) → any (applying x (given e)) reasons ≡ false → saidBy (stepBy nextLane x (given e) .answer) .accepted ≡ true
+  accepted-by e q = none-accepts nextLane x (given e) (none-applies x (given e) q)
 
   receive-goes : (p : Purpose) (v : Place) → phaseAt (x .line) h ≡ Phase.Woken p v → saidBy (stepBy nextLane x (given (Event.Receive h)) .answer) .accepted ≡ true
   receive-goes p v e = accepted-by (Event.Receive h) (rw (is-sound, opened-line, a-lane, e))

@@ -1,5 +1,4 @@
 -- The proof of demand 3.
-pub mod Seen
 pub mod Turn
 pub mod Trace
 pub mod Status

@@ -32,8 +32,9 @@ use Rattle.steps.proofs.Cases.{Steps, enters, frees, looks, opens, puts, reads,
 use Rattle.steps.proofs.Keeps.{GoodState, fresh-idle, holding-value}
 use Rattle.steps.proofs.Ordered.{busy-by, entered-all, started-by}
 use Rattle.steps.proofs.Stored.{other-phase, placed, same-phase}
-use Rattle.demand3.specs.Claim.{OrderedEntry, Entry, CallBytes, Grant, Handed, afterAll, callIn, countFor, enteredAfter, enteredNext, entries, grants, grantsBy, handTo, handed, isReset, range, shares, value}
-use Rattle.demand3.proofs.Seen.{by-entry, entryOf}
+use Rattle.trace.specs.Trace.{Entry, CallBytes, afterAll, callIn, entries, isReset, value}
+use Rattle.demand3.specs.Claim.{OrderedEntry, Grant, Handed, countFor, enteredAfter, enteredNext, grants, grantsBy, handTo, handed, range, shares}
+use Rattle.trace.proofs.Seen.{by-entry, entryOf}
 use Rattle.demand3.proofs.Trace.{entryOn, then, then-good}
 
 -- ---- ranges, and the places of grants

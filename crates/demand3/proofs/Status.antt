@@ -31,8 +31,9 @@ use Rattle.steps.proofs.Keeps.{GoodState, free-leaving, fresh-idle, take-reads-
 use Rattle.steps.proofs.Ordered.{busy-by, entered-all, started-by}
 use Rattle.steps.proofs.Release.{Chosen, Leaving, chosen, woken-now}
 use Rattle.steps.proofs.Stored.{other-phase, placed, same-phase}
-use Rattle.demand3.specs.Claim.{Entry, CallBytes, Status, afterAll, entries, statusHasTurn, holding, statusWaits, off, purposeFor, status, statusNext, waiting, wakes, woken, wokenBy}
-use Rattle.demand3.proofs.Seen.{by-entry, entryOf}
+use Rattle.trace.specs.Trace.{Entry, CallBytes, afterAll, entries, wakes, wokenBy}
+use Rattle.demand3.specs.Claim.{Status, statusHasTurn, holding, statusWaits, off, purposeFor, status, statusNext, waiting, woken}
+use Rattle.trace.proofs.Seen.{by-entry, entryOf}
 use Rattle.demand3.proofs.Trace.{entryOn, then, then-good}
 
 abbrev pub statusOf : Phase → Status

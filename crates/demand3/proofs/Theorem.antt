@@ -21,10 +21,11 @@ use Rattle.steps.specs.Effects.{allEntered, entered, freed, nextOf, othersDown,
 use Rattle.steps.specs.Step.{afterBy}
 use Rattle.steps.proofs.Cases.{Steps, enters, frees, looks, opens, puts, reads, receives, refuses, seeks, take-reads, take-writes, views, wants, writes}
 use Rattle.steps.proofs.Keeps.{GoodState, fresh-idle, unopened-good}
-use Rattle.demand3.specs.Claim.{DemandThree, Entry, CallBytes, InOrder, NextAccepted, OneTurn, OnlyTurn, Status, WaitEnds, afterAll, entries, entriesAfter, enteredAfter, entriesOf, entryAfter, grants, statusHasTurn, isAccepted, isReset, statusWaits, lanesIn, off, status, statusNext, tellsToWait, value, waiting, wantsBy}
+use Rattle.trace.specs.Trace.{Entry, CallBytes, afterAll, entries, isAccepted, isReset, lanesIn, tellsToWait, value, wantsBy}
+use Rattle.demand3.specs.Claim.{DemandThree, InOrder, NextAccepted, OneTurn, OnlyTurn, Status, WaitEnds, entriesAfter, enteredAfter, entriesOf, entryAfter, grants, statusHasTurn, statusWaits, off, status, statusNext, waiting}
 use Rattle.demand3.proofs.Goes.{OnlyPhase, goes, only-turn}
 use Rattle.demand3.proofs.Places.{all-placed, gathers-all, start-gathers, total, wake-lanes}
-use Rattle.demand3.proofs.Seen.{by-entry, entryOf}
+use Rattle.trace.proofs.Seen.{by-entry, entryOf}
 use Rattle.demand3.proofs.Status.{stand-call, statusOf, stands, turn-is, waits-is}
 use Rattle.demand3.proofs.Trace.{entryOn, fair, sent, single, then, then-good}
 

@@ -18,8 +18,8 @@ use Rattle.steps.specs.State.{State}
 use Rattle.steps.specs.Step.{stepBy}
 use Rattle.steps.proofs.Cases.{steps}
 use Rattle.steps.proofs.Keeps.{GoodState, keeps}
-use Rattle.demand3.specs.Claim.{Entry, CallBytes, callIn, entries, entry, isRelease, saidTo, wakes, wantsBy}
-use Rattle.demand3.proofs.Seen.{by-entry}
+use Rattle.trace.specs.Trace.{Entry, CallBytes, callIn, entries, entry, isRelease, saidTo, wakes, wantsBy}
+use Rattle.trace.proofs.Seen.{by-entry}
 use Rattle.demand3.proofs.Turn.{Rests, Turn, no-release, wakes-waiter, nearer, rests, turn, turn-up, up-inside, waits-no-turn}
 
 -- the state after one call, and what it is

@@ -33,8 +33,8 @@ use Rattle.steps.proofs.Keeps.{GoodState, free-leaving, fresh-idle, others-none
 use Rattle.steps.proofs.Ordered.{busy-by, entered-all, started-by}
 use Rattle.steps.proofs.Release.{Chosen, Leaving, alone, chosen, woken-now}
 use Rattle.steps.proofs.Stored.{kinds-count, other-phase, placed, ready-count, same-phase, short}
-use Rattle.demand3.specs.Claim.{Entry, isRelease, wakes, wantsBy, wokenBy}
-use Rattle.demand3.proofs.Seen.{entryOf}
+use Rattle.trace.specs.Trace.{Entry, isRelease, wakes, wantsBy, wokenBy}
+use Rattle.trace.proofs.Seen.{entryOf}
 
 -- ---- phases
 pub turn-up : (y : Phase) → hasTurn y ≡ true → isUp y ≡ true

@@ -33,7 +33,7 @@ use Rattle.steps.specs.Effects.{othersDown, purposeOf, started, wantStep}
 use Rattle.steps.specs.Refusals.{laneOf, namesLane}
 use Rattle.steps.specs.Step.{afterBy, callEvent, callsBy, refuse, stepBy}
 use Rattle.steps.specs.declared.Answer.{Answer}
-use Rattle.steps.proofs.Lowest.{Decided, accepted, decided, refused}
+use Rattle.steps.proofs.CheckingOrder.{Decided, accepted, decided, refused}
 use Rattle.steps.proofs.Edges.{free-wakes, set-down, take-region}
 use Rattle.steps.proofs.Release.{raised-up}
 use Rattle.steps.proofs.Chains.{atLane, enter-chain, free-chain, look-chain, open-chain, put-chain, read-chain, receive-chain, take-chain, want-chain, write-chain}

@@ -48,7 +48,7 @@ unlisted e h = by-test (isListed (kindOf e)) refl
     by-test false q = refl
 
 length-is : (e : Event) → isListed (kindOf e) ≡ true → lengthOfEvent e ≡ length (eventBytes e)
-length-is e k = rw k (omega (arith, body-length e k))
+length-is e k = rw k (omega (arith, body-length e))
 
 pub refused-2 : (buffer : List ℕ) (e : Event) → lengthOfEvent e ≡ 0 → (Writing.Refused 2 ≡ writingOf buffer e) × (buffer ≡ writtenTo buffer e)
 unfolding writingOf writtenTo

@@ -11,23 +11,23 @@ use Rattle.event.specs.declared.Event.{Event}
 use Rattle.event.proofs.Event.{the-type}
 
 -- all but put and view
-abbrev lanes-fit : List ℕ
-lanes-fit = 0 ∷ 1 ∷ 2 ∷ 3 ∷ 4 ∷ 5 ∷ 7 ∷ 8 ∷ 9 ∷ 11 ∷ 12 ∷ []
+abbrev two-at-most : List ℕ
+two-at-most = 0 ∷ 1 ∷ 2 ∷ 3 ∷ 4 ∷ 5 ∷ 7 ∷ 8 ∷ 9 ∷ 11 ∷ 12 ∷ []
 
-pub few-fields : (e : Event) → OneOf lanes-fit (tagOf the-type e) → length (fieldsOf e) ≤ 2
-few-fields (Event.Open lanes capacity) t = omega arith
-few-fields (Event.Want lane purpose) t = omega arith
-few-fields (Event.Receive lane) t = omega arith
-few-fields (Event.Take lane count) t = omega arith
-few-fields (Event.Write lane content) t = omega arith
-few-fields (Event.Read lane) t = omega arith
-few-fields (Event.Put lane place content) t = absurd (miss lanes-fit 6 tt t)
-few-fields (Event.Look lane place) t = omega arith
-few-fields (Event.Free lane) t = omega arith
-few-fields (Event.Enter lane count) t = omega arith
-few-fields (Event.View displacement extent used blocks) t = absurd (miss lanes-fit 10 tt t)
-few-fields (Event.Seek whence offset) t = omega arith
-few-fields Event.Unlisted t = omega arith
+pub two-fields-at-most : (e : Event) → OneOf two-at-most (tagOf the-type e) → length (fieldsOf e) ≤ 2
+two-fields-at-most (Event.Open lanes capacity) t = omega arith
+two-fields-at-most (Event.Want lane purpose) t = omega arith
+two-fields-at-most (Event.Receive lane) t = omega arith
+two-fields-at-most (Event.Take lane count) t = omega arith
+two-fields-at-most (Event.Write lane content) t = omega arith
+two-fields-at-most (Event.Read lane) t = omega arith
+two-fields-at-most (Event.Put lane place content) t = absurd (miss two-at-most 6 tt t)
+two-fields-at-most (Event.Look lane place) t = omega arith
+two-fields-at-most (Event.Free lane) t = omega arith
+two-fields-at-most (Event.Enter lane count) t = omega arith
+two-fields-at-most (Event.View displacement extent used blocks) t = absurd (miss two-at-most 10 tt t)
+two-fields-at-most (Event.Seek whence offset) t = omega arith
+two-fields-at-most Event.Unlisted t = omega arith
 
 -- without those of two fields
 abbrev one : List ℕ

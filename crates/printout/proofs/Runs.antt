@@ -1,12 +1,12 @@
 -- How a run goes on by one event, and where it ends.
-use Prim.Native.Nat.{ℕ, zero, suc, _≤_}
+use Prim.Native.Nat.{ℕ, zero, suc}
 use mathlib.Core.Path.{_≡_, refl, sym}
-use mathlib.Core.Bool.{Bool, true, false}
-use mathlib.Core.List.{List, [], _∷_}
+use mathlib.Core.Bool.{true, false}
+use mathlib.Core.List.{List}
 use native.Mathlib.Omega.{arith}
 use lib.Dec.{leb}
-use lib.ListN.{drop, length}
 use borrow.Author.Tests.{lt-leb}
+use lib.ListN.{length}
 use Rattle.lists.proofs.Tests.{by-test, clash}
 use Rattle.view.specs.View.{recordEnd}
 use Rattle.view.specs.declared.Place.{Place}
@@ -20,18 +20,13 @@ use Rattle.event.specs.declared.Cursor.{Cursor}
 use Rattle.event.specs.declared.Event.{Event}
 use Rattle.event.specs.declared.Reading.{Reading}
 use Rattle.steps.specs.Effects.{Search, allEntered, effect, entered, othersDown, recordAt}
-use Rattle.steps.specs.Refusals.{reasons}
 use Rattle.steps.specs.State.{Result, State}
-use Rattle.steps.specs.Step.{callEvent, stepBy, unlessRefused}
+use Rattle.steps.specs.Step.{callEvent}
 use Rattle.steps.specs.declared.Answer.{Answer}
+use Rattle.steps.proofs.CheckingOrder.{Applies, Decided, accepted, decided, refused}
 use Rattle.printout.specs.Run.{answered, done, endsRun, runOn}
 
 -- ---- an event that was read does not end the run of a sound line: only 1, 2 and 3 would
-late : (k : ℕ) (bs : List Bool) (x : State) (r : Result) → 4 ≤ k → endsRun (r .answer) ≡ false → endsRun (unlessRefused k bs x r .answer) ≡ false
-late k [] x r h e = e
-late k (true ∷ bs) x r h e = lt-leb k 3 h
-late k (false ∷ bs) x r h e = late (suc k) bs x r (omega arith) e
-
 module _ (search : Search) (x : State) where
   record-answers : (k : Place) → endsRun (recordAt x k) ≡ false
   record-answers k = by-test (leb (recordEnd (x .line .view) k) (x .line .size)) (λ e. rw e) (λ e. rw e)
@@ -52,8 +47,19 @@ module _ (search : Search) (x : State) where
   answers Event.Unlisted t = clash (sym t)
 
 pub goes-on : (x : State) (e : Event) → sound (x .line) (length (x .book)) ≡ true → isListed (kindOf e) ≡ true → endsRun (callEvent x e .answer) ≡ false
-unfolding stepBy
-goes-on x e ok t = rw (ok, t) (late 4 (drop 3 (reasons x (given e))) x (effect nextLane x e) (omega arith) (answers nextLane x e t))
+goes-on x e ok t = go (decided nextLane x (given e))
+  where
+    -- neither 1 nor 2 nor 3 applies
+    later : (k : ℕ) → Applies x (given e) k → endsRun (Answer.Refused k) ≡ false
+    later zero a = clash (sym a)
+    later (suc zero) a = clash (sym (rw ok at a))
+    later (suc (suc zero)) a = clash (sym (rw t at a))
+    later (suc (suc (suc zero))) a = clash (sym a)
+    later (suc (suc (suc (suc k)))) a = lt-leb (suc (suc (suc (suc k)))) 3 (omega arith)
+
+    go : {r : Result} → Decided nextLane x (given e) r → endsRun (r .answer) ≡ false
+    go (refused k w) = later k (w .applies)
+    go (accepted f) = answers nextLane x e t
 
 -- ---- the run from a cursor on
 module _ (x : State) (sheet : List ℕ) (at : ℕ) where

@@ -1,5 +1,5 @@
 -- What an accepted step is, case by case, with its tests as facts. Later proofs have a clause for each case.
-use Prim.Native.Nat.{ℕ, suc, _+_, _≤_, _<_}
+use Prim.Native.Nat.{ℕ, _+_, _≤_, _<_}
 use mathlib.Core.Path.{_≡_, refl, sym, ap, _∙_, subst}
 use mathlib.Core.Bool.{Bool, true, false, not, _&&_, _||_}
 use lib.ListN.{length}
@@ -12,7 +12,7 @@ use Rattle.view.specs.View.{fits, viewOk}
 use Rattle.view.specs.declared.Place.{Place}
 use Rattle.line.specs.declared.Purpose.{Purpose}
 use Rattle.line.specs.declared.Phase.{Phase}
-use Rattle.limits.specs.Limits.{mostLanes, mostPointer}
+use Rattle.limits.specs.Limits.{leastCapacity, mostCapacity, mostLanes, mostPointer}
 use Rattle.line.specs.Line.{holdsShared, holdsWhole, isGathered, isHolding, isIdle, isIdleOrGathered, isSharedRead, isSharedWrite, isWholeBook, leftIn, on, phaseAt, placeIn, purposeIn}
 use Rattle.line.specs.Sound.{gatheredTotal}
 use Rattle.line.proofs.Phases.{holding-is, idle-is, reading-is, woken-is, writing-is}
@@ -23,12 +23,12 @@ use Rattle.steps.specs.State.{Result, State}
 use Rattle.steps.specs.Effects.{Search, effect, entered, enterStep, freeStep, lookStep, openStep, purposeOf, putStep, readStep, receiveStep, seekStep, seekTarget, takeStep, viewOf, viewStep, wantStep, writeStep}
 use Rattle.steps.specs.Refusals.{allows, isOutside, noWakeYet, phaseOf}
 use Rattle.steps.specs.Step.{refuse, stepBy}
-use Rattle.steps.proofs.Lowest.{Decided, NotApplies, accepted, decided, refused}
+use Rattle.steps.proofs.CheckingOrder.{Decided, NotApplies, accepted, decided, refused}
 
 -- the step of call c from x; `search` finds the lane that a release wakes
 pub data Steps (search : Search) (x : State) : Call → Result → Type 0 where
-  refuses : {c : Call} (n : ℕ) → Steps search x c (refuse (suc n) x)
-  opens : (lanes capacity : ℕ) → x .line .lanes ≡ 0 → 1 ≤ lanes → lanes ≤ mostLanes → 8 ≤ capacity → capacity ≤ 65536 → capacity ≤ length (x .book)
+  refuses : {c : Call} (n : ℕ) → Steps search x c (refuse n x)
+  opens : (lanes capacity : ℕ) → x .line .lanes ≡ 0 → 1 ≤ lanes → lanes ≤ mostLanes → leastCapacity ≤ capacity → capacity ≤ mostCapacity → capacity ≤ length (x .book)
       → Steps search x (given (Event.Open lanes capacity)) (openStep x lanes capacity)
   wants : (i purpose : ℕ) → i < x .line .lanes → phaseAt (x .line) i ≡ Phase.Idle → any (on isGathered) (x .line .lane) ≡ false
       → Steps search x (given (Event.Want i purpose)) (wantStep x i (purposeOf purpose))
@@ -97,53 +97,53 @@ allowed true w e z = refl
 allowed false w e z = clash (rw z at e)
 
 module _ (search : Search) (x : State) where
-  allow : (e : Event) → ((n : ℕ) → NotApplies x (given e) n) → allows e (phaseOf x e) ≡ true
-  allow e f = allowed (allows e (phaseOf x e)) (noWakeYet x (given e)) (f 12) (f 13)
+  allow : (e : Event) → ((k : ℕ) → NotApplies x (given e) k) → allows e (phaseOf x e) ≡ true
+  allow e f = allowed (allows e (phaseOf x e)) (noWakeYet .applies x (given e)) (f 13) (f 14)
 
   -- none of the reasons applies to the event
-  accepted-case : (e : Event) → ((n : ℕ) → NotApplies x (given e) n) → Steps search x (given e) (effect search x e)
+  accepted-case : (e : Event) → ((k : ℕ) → NotApplies x (given e) k) → Steps search x (given e) (effect search x e)
   accepted-case (Event.Open lanes capacity) f =
-      let a = not-false _ (f 5) in
-      let b = not-false _ (f 6) in
-      let c = and-left (leb 8 capacity && leb capacity 65536) (leb capacity (length (x .book))) b in
-      opens lanes capacity (eqb-true (x .line .lanes) 0 (not-false _ (f 4)))
+      let a = not-false _ (f 6) in
+      let b = not-false _ (f 7) in
+      let c = and-left (leb leastCapacity capacity && leb capacity mostCapacity) (leb capacity (length (x .book))) b in
+      opens lanes capacity (eqb-true (x .line .lanes) 0 (not-false _ (f 5)))
       (leb-true 1 lanes (and-left (leb 1 lanes) (leb lanes mostLanes) a)) (leb-true lanes mostLanes (and-right (leb 1 lanes) (leb lanes mostLanes) a))
-      (leb-true 8 capacity (and-left (leb 8 capacity) (leb capacity 65536) c)) (leb-true capacity 65536 (and-right (leb 8 capacity) (leb capacity 65536) c))
-      (leb-true capacity (length (x .book)) (and-right (leb 8 capacity && leb capacity 65536) (leb capacity (length (x .book))) b))
-  accepted-case (Event.Want i purpose) f = wants i purpose (leb-false (x .line .lanes) i (f 7)) (idle-is (phaseAt (x .line) i) (allow (Event.Want i purpose) f)) (f 11)
+      (leb-true leastCapacity capacity (and-left (leb leastCapacity capacity) (leb capacity mostCapacity) c)) (leb-true capacity mostCapacity (and-right (leb leastCapacity capacity) (leb capacity mostCapacity) c))
+      (leb-true capacity (length (x .book)) (and-right (leb leastCapacity capacity && leb capacity mostCapacity) (leb capacity (length (x .book))) b))
+  accepted-case (Event.Want i purpose) f = wants i purpose (leb-false (x .line .lanes) i (f 8)) (idle-is (phaseAt (x .line) i) (allow (Event.Want i purpose) f)) (f 12)
   accepted-case (Event.Receive i) f =
       let e = woken-is (phaseAt (x .line) i) (allow (Event.Receive i) f) in
       subst (λ (y : Phase). Steps search x (given (Event.Receive i)) (receiveStep x i y)) (sym e)
-      (receives i (purposeIn (phaseAt (x .line) i)) (placeIn (phaseAt (x .line) i)) (leb-false (x .line .lanes) i (f 7)) e)
+      (receives i (purposeIn (phaseAt (x .line) i)) (placeIn (phaseAt (x .line) i)) (leb-false (x .line .lanes) i (f 8)) e)
   accepted-case (Event.Take i c) f =
       let y = phaseAt (x .line) i in
       let h = holding-shared y (allow (Event.Take i c) f) in
       let e = holding-is y (h .0) in
       subst (λ (z : Phase). Steps search x (given (Event.Take i c)) (takeStep search x i c z)) (sym e)
-      (take-case search x i c (leb-false (x .line .lanes) i (f 7)) (purposeIn y) (placeIn y) e (h .1) (f 14) (f 15))
+      (take-case search x i c (leb-false (x .line .lanes) i (f 8)) (purposeIn y) (placeIn y) e (h .1) (f 15) (f 16))
   accepted-case (Event.Write i content) f =
       let e = writing-is (phaseAt (x .line) i) (allow (Event.Write i content) f) in
       subst (λ (y : Phase). Steps search x (given (Event.Write i content)) (writeStep x i content y)) (sym e)
-      (writes i content (leftIn (phaseAt (x .line) i)) (placeIn (phaseAt (x .line) i)) (leb-false (x .line .lanes) i (f 7)) e)
+      (writes i content (leftIn (phaseAt (x .line) i)) (placeIn (phaseAt (x .line) i)) (leb-false (x .line .lanes) i (f 8)) e)
   accepted-case (Event.Read i) f =
       let e = reading-is (phaseAt (x .line) i) (allow (Event.Read i) f) in
       subst (λ (y : Phase). Steps search x (given (Event.Read i)) (readStep x i y)) (sym e)
-      (reads i (leftIn (phaseAt (x .line) i)) (placeIn (phaseAt (x .line) i)) (leb-false (x .line .lanes) i (f 7)) e)
+      (reads i (leftIn (phaseAt (x .line) i)) (placeIn (phaseAt (x .line) i)) (leb-false (x .line .lanes) i (f 8)) e)
   accepted-case (Event.Put i k content) f =
-      puts i k content (placeIn (phaseAt (x .line) i)) (leb-false (x .line .lanes) i (f 7)) (holding-whole _ (allow (Event.Put i k content) f)) (not-false _ (f 15))
+      puts i k content (placeIn (phaseAt (x .line) i)) (leb-false (x .line .lanes) i (f 8)) (holding-whole _ (allow (Event.Put i k content) f)) (not-false _ (f 16))
   accepted-case (Event.Look i k) f =
-      looks i k (placeIn (phaseAt (x .line) i)) (leb-false (x .line .lanes) i (f 7)) (holding-whole _ (allow (Event.Look i k) f))
+      looks i k (placeIn (phaseAt (x .line) i)) (leb-false (x .line .lanes) i (f 8)) (holding-whole _ (allow (Event.Look i k) f))
   accepted-case (Event.Free i) f =
-      frees i (placeIn (phaseAt (x .line) i)) (leb-false (x .line .lanes) i (f 7)) (holding-whole _ (allow (Event.Free i) f))
+      frees i (placeIn (phaseAt (x .line) i)) (leb-false (x .line .lanes) i (f 8)) (holding-whole _ (allow (Event.Free i) f))
   accepted-case (Event.Enter i c) f =
-      enters i c (leb-false (x .line .lanes) i (f 7)) (idle-is _ (allow (Event.Enter i c) f)) (not-false _ (f 10)) (not-false _ (f 15))
+      enters i c (leb-false (x .line .lanes) i (f 8)) (idle-is _ (allow (Event.Enter i c) f)) (not-false _ (f 11)) (not-false _ (f 16))
   accepted-case (Event.View displacement extent used blocks) f =
-      views displacement extent used blocks (not-zero (x .line .lanes) (f 3)) (not-false _ (f 9)) (or-not (all (on isIdle) (x .line .lane)) (f 10))
+      views displacement extent used blocks (not-zero (x .line .lanes) (f 4)) (not-false _ (f 10)) (or-not (all (on isIdle) (x .line .lane)) (f 11))
   accepted-case (Event.Seek whence offset) f =
-      let r = inside-is (seekTarget (x .line) whence offset) (f 14) in
+      let r = inside-is (seekTarget (x .line) whence offset) (f 15) in
       subst (λ (z : ℤ). Steps search x (given (Event.Seek whence offset)) (seekStep x z)) (sym (r .1))
-      (seeks whence offset (r .0) (not-zero (x .line .lanes) (f 3)) (r .1) (r .2) (or-not (all (on isIdle) (x .line .lane)) (f 10)))
-  accepted-case Event.Unlisted f = clash (f 1)
+      (seeks whence offset (r .0) (not-zero (x .line .lanes) (f 4)) (r .1) (r .2) (or-not (all (on isIdle) (x .line .lane)) (f 11)))
+  accepted-case Event.Unlisted f = clash (f 2)
 
   pub steps : (c : Call) → Steps search x c (stepBy search x c)
   steps c = go c (decided search x c)
@@ -151,4 +151,4 @@ module _ (search : Search) (x : State) where
       go : (c : Call) {r : Result} → Decided search x c r → Steps search x c r
       go c (refused n w) = refuses n
       go (given e) (accepted f) = accepted-case e f
-      go cutShort (accepted f) = clash (f 2)
+      go cutShort (accepted f) = clash (f 3)

@@ -8,7 +8,7 @@ use lib.Dec.{eqb, leb, ltb}
 use Rattle.lists.specs.Lists.{all, any}
 use Rattle.view.specs.View.{fits, viewOk}
 use Rattle.view.specs.declared.Place.{Place}
-use Rattle.limits.specs.Limits.{mostLanes, mostPointer}
+use Rattle.limits.specs.Limits.{leastCapacity, mostCapacity, mostLanes, mostPointer}
 use Rattle.line.specs.Line.{holdsShared, holdsWhole, isGathered, isIdle, isIdleOrGathered, isReading, isSharedRead, isSharedWrite, isWaiting, isWoken, isWriting, on, phaseAt, placeIn, purposeIn}
 use Rattle.line.specs.Sound.{gatheredTotal, sound}
 use Rattle.event.specs.Event.{cutShort, given}
@@ -36,7 +36,7 @@ module _ (search : Search) (x : State) where
       ≡ whenSound x
       (cond (not (eqb (x .line .lanes) 0)) (refuse 5 x)
       (cond (not (leb 1 lanes && leb lanes mostLanes)) (refuse 6 x)
-      (cond (not (leb 8 capacity && leb capacity 65536 && leb capacity (length (x .book)))) (refuse 7 x) (openStep x lanes capacity))))
+      (cond (not (leb leastCapacity capacity && leb capacity mostCapacity && leb capacity (length (x .book)))) (refuse 7 x) (openStep x lanes capacity))))
   unfolding stepBy
   open-chain lanes capacity = refl
 

@@ -33,7 +33,7 @@ use Rattle.steps.specs.State.{Result, State, leaves, withPointer}
 use Rattle.steps.specs.Effects.{Search, allEntered, busyFor, contentAt, effect, entered, lowered, nextOf, othersDown, reading, recordAt, released, started, startedAt, wake}
 use Rattle.steps.specs.Step.{refuse, stepBy}
 use Rattle.steps.specs.declared.Answer.{Answer}
-use Rattle.steps.proofs.Lowest.{Decided, accepted, accepted-none, decided, none-accepted, refused}
+use Rattle.steps.proofs.CheckingOrder.{Decided, accepted, accepted-none, decided, none-accepted, refused}
 use Rattle.steps.proofs.Stored.{other-phase, placed}
 use Rattle.steps.proofs.Chains.{atLane, receive-chain, seek-chain, take-chain, want-chain, whenOpen}
 

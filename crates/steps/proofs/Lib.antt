@@ -1,5 +1,5 @@
 -- The laws of a step.
-pub mod Lowest
+pub mod CheckingOrder
 pub mod Chains
 pub mod Cases
 pub mod Stored

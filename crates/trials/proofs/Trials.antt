@@ -12,7 +12,8 @@ use Rattle.event.specs.BigEndian.{bigEndian, numberOf}
 use Rattle.event.specs.Event.{fieldsIn}
 use Rattle.steps.specs.Effects.{started}
 use Rattle.steps.specs.Step.{afterBy, stepBy}
-use Rattle.demand3.specs.Claim.{Demand3, Handed, countFor, entries, entriesAfter, grants, handTo, handed, isRelease, lanesIn, shares, status, wakes}
+use Rattle.trace.specs.Trace.{entries, isRelease, lanesIn, wakes}
+use Rattle.demand3.specs.Claim.{Demand3, Handed, countFor, entriesAfter, grants, handTo, handed, shares, status}
 use Rattle.trials.specs.Trials.{book64, fromZero, long62, long63, longEarly, mixed, opening, passesFrom, wanting, wantsFrom, zeroEarly, zeroLater}
 
 -- lane 63 of 64 waits for lane 0: 63 steps. After 62 releases it is not woken, and the 63rd wakes it

@@ -4,7 +4,7 @@ use mathlib.Core.List.{List, [], _∷_}
 use lib.ListN.{replicate}
 use Rattle.waitlist.specs.NextLane.{firstRaised}
 use Rattle.waitlist.specs.declared.Wakes.{Wakes}
-use Rattle.demand3.specs.Claim.{CallBytes}
+use Rattle.trace.specs.Trace.{CallBytes}
 
 abbrev pub call : ℕ → List ℕ → CallBytes
 call kind body = record { kind = kind; body = body }

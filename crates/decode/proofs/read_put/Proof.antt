@@ -4,6 +4,7 @@ use mathlib.Core.List.{[], _∷_}
 use Rattle.decode_fields.specs.Fields.{said32, said64, said8}
 use Rattle.decode_fields.proofs.InOrder.{and-then, cut-first, cut-later, got, missed}
 use Rattle.decode.proofs.Bodies.{body-cut, body-read}
+use lib.Dec.{lit<}
 use borrow.Author.Needs.{needs}
 use Rattle.decode.proofs.read_put.Statement.{statement}
 use Rattle.decode.proofs.read_put.Tie as tie
@@ -18,7 +19,7 @@ enum-told : tie.Need-enum-told
 enum-told c = search needs
 
 returns : tie.Need-returns
-returns c = body-cut 7 refl (cut-first (4 ∷ 8 ∷ []) (missed (sym (c .before .before .read-u8 .ensures) ∙ ap said8 (c .enum-told .given .1))))
+returns c = body-cut 7 refl (lit< tt) (cut-first (4 ∷ 8 ∷ []) (missed (sym (c .before .before .read-u8 .ensures) ∙ ap said8 (c .enum-told .given .1))))
 
 read-u32-requires : tie.Need-read-u32-requires
 read-u32-requires c κs = search needs
@@ -32,7 +33,7 @@ enum-told-2 c = search needs
 returns-2 : tie.Need-returns-2
 returns-2 c =
     let lane = c .before .before .before .before in
-    body-cut 7 refl (cut-later (got (sym (lane .before .before .read-u8 .ensures) ∙ ap said8 (lane .lane .given .1))) (cut-first (8 ∷ []) (missed (sym (c .before .before .read-u32 .ensures) ∙ ap said32 (c .enum-told2 .given .1)))))
+    body-cut 7 refl (lit< tt) (cut-later (got (sym (lane .before .before .read-u8 .ensures) ∙ ap said8 (lane .lane .given .1))) (cut-first (8 ∷ []) (missed (sym (c .before .before .read-u32 .ensures) ∙ ap said32 (c .enum-told2 .given .1)))))
 
 read-u64-requires : tie.Need-read-u64-requires
 read-u64-requires c κs = search needs
@@ -47,7 +48,7 @@ returns-3 : tie.Need-returns-3
 returns-3 c =
     let place = c .before .before .before .before in
     let lane = place .before .before .before .before in
-    body-cut 7 refl (cut-later (got (sym (lane .before .before .read-u8 .ensures) ∙ ap said8 (lane .lane .given .1))) (cut-later (got (sym (place .before .before .read-u32 .ensures) ∙ ap said32 (place .place .given .1))) (missed (sym (c .before .before .read-u64 .ensures) ∙ ap said64 (c .enum-told3 .given .1)))))
+    body-cut 7 refl (lit< tt) (cut-later (got (sym (lane .before .before .read-u8 .ensures) ∙ ap said8 (lane .lane .given .1))) (cut-later (got (sym (place .before .before .read-u32 .ensures) ∙ ap said32 (place .place .given .1))) (missed (sym (c .before .before .read-u64 .ensures) ∙ ap said64 (c .enum-told3 .given .1)))))
 
 returns-4 : tie.Need-returns-4
 returns-4 c =

@@ -4,6 +4,7 @@ use mathlib.Core.List.{[], _∷_}
 use Rattle.decode_fields.specs.Fields.{said16, said32, said8, saidBlocks}
 use Rattle.decode_fields.proofs.InOrder.{and-then, cut-first, cut-later, got, missed}
 use Rattle.decode.proofs.Bodies.{body-cut, body-read}
+use lib.Dec.{lit<}
 use borrow.Author.Needs.{needs}
 use Rattle.decode.proofs.read_view.Statement.{statement}
 use Rattle.decode.proofs.read_view.Tie as tie
@@ -18,7 +19,7 @@ enum-told : tie.Need-enum-told
 enum-told c = search needs
 
 returns : tie.Need-returns
-returns c = body-cut 11 refl (cut-first (2 ∷ 1 ∷ 2 ∷ 2 ∷ 2 ∷ 2 ∷ 2 ∷ 2 ∷ 2 ∷ 2 ∷ 2 ∷ 2 ∷ 2 ∷ 2 ∷ 2 ∷ 2 ∷ 2 ∷ 2 ∷ []) (missed (sym (c .before .before .read-u32 .ensures) ∙ ap said32 (c .enum-told .given .1))))
+returns c = body-cut 11 refl (lit< tt) (cut-first (2 ∷ 1 ∷ 2 ∷ 2 ∷ 2 ∷ 2 ∷ 2 ∷ 2 ∷ 2 ∷ 2 ∷ 2 ∷ 2 ∷ 2 ∷ 2 ∷ 2 ∷ 2 ∷ 2 ∷ 2 ∷ []) (missed (sym (c .before .before .read-u32 .ensures) ∙ ap said32 (c .enum-told .given .1))))
 
 read-u16-requires : tie.Need-read-u16-requires
 read-u16-requires c κs = search needs
@@ -32,7 +33,7 @@ enum-told-2 c = search needs
 returns-2 : tie.Need-returns-2
 returns-2 c =
     let displacement = c .before .before .before .before in
-    body-cut 11 refl (cut-later (got (sym (displacement .before .before .read-u32 .ensures) ∙ ap said32 (displacement .displacement .given .1))) (cut-first (1 ∷ 2 ∷ 2 ∷ 2 ∷ 2 ∷ 2 ∷ 2 ∷ 2 ∷ 2 ∷ 2 ∷ 2 ∷ 2 ∷ 2 ∷ 2 ∷ 2 ∷ 2 ∷ 2 ∷ []) (missed (sym (c .before .before .read-u16 .ensures) ∙ ap said16 (c .enum-told2 .given .1)))))
+    body-cut 11 refl (lit< tt) (cut-later (got (sym (displacement .before .before .read-u32 .ensures) ∙ ap said32 (displacement .displacement .given .1))) (cut-first (1 ∷ 2 ∷ 2 ∷ 2 ∷ 2 ∷ 2 ∷ 2 ∷ 2 ∷ 2 ∷ 2 ∷ 2 ∷ 2 ∷ 2 ∷ 2 ∷ 2 ∷ 2 ∷ 2 ∷ []) (missed (sym (c .before .before .read-u16 .ensures) ∙ ap said16 (c .enum-told2 .given .1)))))
 
 read-u8-requires : tie.Need-read-u8-requires
 read-u8-requires c κs = search needs
@@ -47,7 +48,7 @@ returns-3 : tie.Need-returns-3
 returns-3 c =
     let extent = c .before .before .before .before in
     let displacement = extent .before .before .before .before in
-    body-cut 11 refl (cut-later (got (sym (displacement .before .before .read-u32 .ensures) ∙ ap said32 (displacement .displacement .given .1))) (cut-later (got (sym (extent .before .before .read-u16 .ensures) ∙ ap said16 (extent .extent .given .1))) (cut-first (2 ∷ 2 ∷ 2 ∷ 2 ∷ 2 ∷ 2 ∷ 2 ∷ 2 ∷ 2 ∷ 2 ∷ 2 ∷ 2 ∷ 2 ∷ 2 ∷ 2 ∷ 2 ∷ []) (missed (sym (c .before .before .read-u8 .ensures) ∙ ap said8 (c .enum-told3 .given .1))))))
+    body-cut 11 refl (lit< tt) (cut-later (got (sym (displacement .before .before .read-u32 .ensures) ∙ ap said32 (displacement .displacement .given .1))) (cut-later (got (sym (extent .before .before .read-u16 .ensures) ∙ ap said16 (extent .extent .given .1))) (cut-first (2 ∷ 2 ∷ 2 ∷ 2 ∷ 2 ∷ 2 ∷ 2 ∷ 2 ∷ 2 ∷ 2 ∷ 2 ∷ 2 ∷ 2 ∷ 2 ∷ 2 ∷ 2 ∷ []) (missed (sym (c .before .before .read-u8 .ensures) ∙ ap said8 (c .enum-told3 .given .1))))))
 
 read-blocks-requires : tie.Need-read-blocks-requires
 read-blocks-requires c κs = search needs
@@ -63,7 +64,7 @@ returns-4 c =
     let used = c .before .before .before .before in
     let extent = used .before .before .before .before in
     let displacement = extent .before .before .before .before in
-    body-cut 11 refl (cut-later (got (sym (displacement .before .before .read-u32 .ensures) ∙ ap said32 (displacement .displacement .given .1))) (cut-later (got (sym (extent .before .before .read-u16 .ensures) ∙ ap said16 (extent .extent .given .1))) (cut-later (got (sym (used .before .before .read-u8 .ensures) ∙ ap said8 (used .used .given .1))) (missed (sym (c .before .before .read-blocks .ensures) ∙ ap saidBlocks (c .enum-told4 .given .1))))))
+    body-cut 11 refl (lit< tt) (cut-later (got (sym (displacement .before .before .read-u32 .ensures) ∙ ap said32 (displacement .displacement .given .1))) (cut-later (got (sym (extent .before .before .read-u16 .ensures) ∙ ap said16 (extent .extent .given .1))) (cut-later (got (sym (used .before .before .read-u8 .ensures) ∙ ap said8 (used .used .given .1))) (missed (sym (c .before .before .read-blocks .ensures) ∙ ap saidBlocks (c .enum-told4 .given .1))))))
 
 returns-5 : tie.Need-returns-5
 returns-5 c =

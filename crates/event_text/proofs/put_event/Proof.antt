@@ -1,6 +1,6 @@
 -- `event_text::put_event` meets its contract: an arm for each kind.
 use Rattle.event_text.specs.Show.{eventWords}
-use Rattle.event_text.proofs.Groups.{few-fields}
+use Rattle.event_text.proofs.Groups.{two-fields-at-most}
 use borrow.Author.Needs.{needs}
 use Rattle.event_text.proofs.put_event.Statement.{statement}
 use Rattle.event_text.proofs.put_event.Tie as tie
@@ -18,7 +18,7 @@ put-view-requires : tie.Need-put-view-requires
 put-view-requires c κs = search needs
 
 put-pair-requires : tie.Need-put-pair-requires
-put-pair-requires c κs = (search needs, few-fields (c .before .before .before .args .event) (c .before .match .keys3))
+put-pair-requires c κs = (search needs, two-fields-at-most (c .before .before .before .args .event) (c .before .match .keys3))
 
 same-length : tie.Need-same-length
 same-length c = search needs

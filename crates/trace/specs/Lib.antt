@@ -1,0 +1,2 @@
+-- Calls with their answers.
+pub mod Trace
