@@ -14,13 +14,14 @@ use Rattle.event.specs.ReadWrite.{readingOf}
 use Rattle.event.specs.declared.Cursor.{Cursor}
 use Rattle.event.specs.declared.Reading.{Reading}
 use Rattle.event.specs.declared.Event.{Event}
+use Rattle.event.proofs.ByKind.{not-listed}
 use Rattle.steps.specs.Meets.{Meets, stateOf}
 use Rattle.steps.specs.Step.{callEvent, refuse, stepBy}
 use Rattle.steps.proofs.Chains.{cut-chain, unlisted-chain, whenSound}
 use Rattle.steps.specs.declared.Outcome.{Outcome}
 use Rattle.refuse.specs.Refused.{refusedOutcome}
 use Rattle.event_calls.specs.Refused.{refusedBytes}
-use Rattle.refuse.proofs.First.{meets-refused}
+use Rattle.refuse.proofs.First.{meets-refused, when-sound}
 
 unsound-step : (l : Line) (book : List ℕ) (c : Call) → sound l (length book) ≡ false → stepBy nextLane (stateOf l book) c ≡ refuse 1 (stateOf l book)
 unfolding stepBy
@@ -39,22 +40,11 @@ no-event l book c k o chain f =
 pub no-kind : (l : Line) (book : List ℕ) (o : Outcome) → o ≡ refusedBytes l (length book) 2 → Meets (callEvent (stateOf l book) Event.Unlisted) o book
 no-kind l book o f = no-event l book (given Event.Unlisted) 2 o (unlisted-chain nextLane (stateOf l book)) f
 
--- ---- from what was read to the call
-not-listed : (e : Event) → isListed (kindOf e) ≡ false → e ≡ Event.Unlisted
-not-listed (Event.Open lanes capacity) t = clash t
-not-listed (Event.Want i p) t = clash t
-not-listed (Event.Receive i) t = clash t
-not-listed (Event.Take i c) t = clash t
-not-listed (Event.Write i content) t = clash t
-not-listed (Event.Read i) t = clash t
-not-listed (Event.Put i k content) t = clash t
-not-listed (Event.Look i k) t = clash t
-not-listed (Event.Free i) t = clash t
-not-listed (Event.Enter i c) t = clash t
-not-listed (Event.View displacement extent used blocks) t = clash t
-not-listed (Event.Seek whence offset) t = clash t
-not-listed Event.Unlisted t = refl
+-- on a sound line
+pub unlisted-refused : (l : Line) (book : List ℕ) (o : Outcome) → sound l (length book) ≡ true → o ≡ refusedOutcome l 2 → Meets (callEvent (stateOf l book) Event.Unlisted) o book
+unlisted-refused l book o ok f = meets-refused l book 2 (unlisted-chain nextLane (stateOf l book) ∙ when-sound l book ok _) f
 
+-- ---- from what was read to the call
 -- the number that a reading refuses with; an event has none
 numberIn : ℕ → Reading → ℕ
 numberIn d (Reading.Event e next) = d

@@ -3,7 +3,7 @@ ghost use mathlib.Core.Bool.{true};
 ghost use mathlib.Core.Path.{_≡_};
 ghost use lib.ListN.{length};
 ghost use Rattle.line.specs.Sound.{sound};
-ghost use Rattle.lane_calls.specs.Decided.{scopeOf};
+ghost use Rattle.scopes.specs.Scope.{laneEvent};
 ghost use Rattle.steps.specs.Meets.{Meets, stateOf};
 ghost use Rattle.steps.specs.Step.{callBytes, callEvent};
 ghost use Rattle.event_calls.specs.Refused.{refusedBytes};
@@ -11,24 +11,25 @@ use changes::apply;
 use changes::see;
 use event::Event;
 use event::Reading;
-use lane_calls::Scope;
 use lane_calls::decide;
-use lane_calls::scope_of;
 use line::Line;
 use line_calls::call_line;
 use refuse::refuse;
+use scopes::LaneCall;
+use scopes::Scope;
+use scopes::scope_of;
 use soundness::is_sound;
 use steps::Outcome;
 
 // The call of a lane on a sound line: what it sees, what it changes, and the change applied.
-fn call_lane(line: Line, book: &mut [u8], lane: u8, event: Event) -> Outcome
-    requires { ⌜ (sound line (length (now book)) ≡ true) × (scopeOf event ≡ Scope.Lane lane) ⌝ }
-    ensures { λ r. ⌜ Meets (callEvent (stateOf line (now (book .entry))) event) r (now (book .exit)) ⌝ }
+fn call_lane(line: Line, book: &mut [u8], lane: u8, call: LaneCall) -> Outcome
+    requires { ⌜ sound line (length (now book)) ≡ true ⌝ }
+    ensures { λ r. ⌜ Meets (callEvent (stateOf line (now (book .entry))) (laneEvent lane call)) r (now (book .exit)) ⌝ }
 {
     let seen = see(line, lane);
     let view = line.view;
     let flag = line.flag;
-    let change = decide(seen, lane, view, &flag, book, event);
+    let change = decide(seen, lane, view, &flag, book, call);
     apply(line, lane, change)
 }
 
@@ -41,8 +42,9 @@ pub fn call_event(line: Line, book: &mut [u8], event: Event) -> Outcome
     }
     let scope = scope_of(event);
     match scope {
-        Scope::Lane(lane) => call_lane(line, book, lane, event),
-        Scope::Line => call_line(line, book, event),
+        Scope::Lane { lane, call } => call_lane(line, book, lane, call),
+        Scope::Line { call } => call_line(line, book, call),
+        Scope::Unlisted => refuse(line, 2),
     }
 }
 

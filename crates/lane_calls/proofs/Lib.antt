@@ -1,3 +1,3 @@
 -- The laws of the calls 02 to 09.
-pub mod Others
+pub mod Refused
 pub mod Steps

@@ -5,6 +5,9 @@ ghost use Rattle.setup_calls.specs.Setup.{baseOf, soughtAt};
 use limits::MOST_POINTER;
 use view::Place;
 
+// The last place that the pointer takes, as a signed number.
+const LAST_PLACE: i64 = MOST_POINTER as i64;
+
 // The place, or the sum is below 0 or above the last place that the pointer takes.
 pub enum Sought {
     At(Place),
@@ -32,7 +35,7 @@ pub fn moved_by(base: u32, offset: i32) -> Sought
     if sum < 0 {
         return Sought::Outside;
     }
-    if (MOST_POINTER as i64) < sum {
+    if LAST_PLACE < sum {
         return Sought::Outside;
     }
     let place = Place(sum as u32);

@@ -19,6 +19,9 @@ use view::Place;
 use view::View;
 use waitlist::Wakes;
 
+// The last place that the pointer takes, as a sum of 64 bits.
+const LAST_PLACE: u64 = MOST_POINTER as u64;
+
 // A lane raises its flag: where all others are 0 it holds, with the pointer, and else it waits.
 fn raise(seen: Seen, alone: bool, purpose: Purpose) -> Change
     ensures { λ r. ⌜ r ≡ wanted seen alone purpose ⌝ }
@@ -137,7 +140,7 @@ fn take_to_read(seen: Seen, flags: &[u8; MOST_LANES], lane: u8, start: Place, co
     requires { ⌜ start .0 ≤ mostPointer ⌝ }
     ensures { λ r. ⌜ r ≡ takenToRead seen (now (flags .entry)) lane start count ⌝ }
 {
-    if (MOST_POINTER as u64) < start.0 as u64 + count as u64 {
+    if LAST_PLACE < start.0 as u64 + count as u64 {
         return refuse(seen, 15);
     }
     take_region(seen, flags, lane, start, count, to_read(count, start))

@@ -26,23 +26,20 @@ abbrev look : tie.Start → Seen
 look s = seenOf (s .args .line) (entryOf (s .args .lane))
 
 within : (s : tie.Start) → Within (look s) (s .args .line .view) (length (s .args .book .now))
-within s = within-of (s .args .line) (length (s .args .book .now)) (shape-of (s .args .line) (s .good .0)) (s .pre .0) (entryOf (s .args .lane))
+within s = within-of (s .args .line) (length (s .args .book .now)) (shape-of (s .args .line) (s .good .0)) (s .pre) (entryOf (s .args .lane))
 
 -- the change, by what the call sees of the line, and the book after it
 abbrev change-of : Seen → tie.Start → Change
-change-of seen s = decided seen (s .args .lane) (s .args .line .view) (s .args .line .flag) (s .args .book .now) (s .args .event)
+change-of seen s = decided seen (s .args .lane) (s .args .line .view) (s .args .line .flag) (s .args .book .now) (s .args .call)
 
 change-is : (c : tie.After-decide) → c .decide .result ≡ change-of (look (start (see-of c))) (start (see-of c))
-change-is c = c .decide .ensures .0 ∙ ap (λ (seen : Seen). change-of seen (start (see-of c))) (see-of c .see .ensures)
+change-is c = c .decide .ensures .is ∙ ap (λ (seen : Seen). change-of seen (start (see-of c))) (see-of c .see .ensures)
 
 abbrev book-of : tie.Start → Change → List ℕ
-book-of s change = bookDecided (s .args .event) (s .args .book .now) (change .answer)
+book-of s change = bookDecided (s .args .call) (s .args .book .now) (change .answer)
 
 see-requires : tie.Need-see-requires
 see-requires c κs = search needs
-
-slice-aggregate-decide : tie.Need-slice-aggregate-decide
-slice-aggregate-decide c = search needs
 
 decide-requires : tie.Need-decide-requires
 decide-requires c κs =
@@ -59,15 +56,14 @@ returns : tie.Need-returns
 returns c =
     let d = c .before .before .before in
     let s = start (see-of d) in
-    meets-changed (s .args .line) (entryOf (s .args .lane)) (change-of (look s) s) (decided-step (s .args .line) (s .args .book .now) (within s .lanes-fit) (s .pre .0) (s .args .event) (s .args .lane) (s .pre .1) .is)
-    (c .apply .ensures ∙ ap (outcomeOf (s .args .line) (entryOf (s .args .lane))) (change-is d)) (d .decide .ensures .1 ∙ ap (book-of s) (change-is d))
+    meets-changed (s .args .line) (entryOf (s .args .lane)) (change-of (look s) s) (decided-step (s .args .line) (s .args .book .now) (within s .lanes-fit) (s .pre) (s .args .call) (s .args .lane) .is)
+    (c .apply .ensures ∙ ap (outcomeOf (s .args .line) (entryOf (s .args .lane))) (change-is d)) (d .decide .ensures .book-left ∙ ap (book-of s) (change-is d))
 
 pub call-lane-spec : {M : Type 1} → statement M
 call-lane-spec =
     tie.close
     (tie.spec
     see-requires
-    slice-aggregate-decide
     decide-requires
     apply-requires
     same-length

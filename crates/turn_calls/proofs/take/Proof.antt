@@ -13,7 +13,7 @@ enum-known-phase c = search needs
 take-by-requires : tie.Need-take-by-requires
 take-by-requires c κs =
     let told = c .before in
-    rw (told .phase .given .1) at (told .before .before .before .pre)
+    rw (told .phase .given .1) at (told .before .before .pre)
 
 refuse-requires : tie.Need-refuse-requires
 refuse-requires c κs = search needs
@@ -21,12 +21,12 @@ refuse-requires c κs = search needs
 returns : tie.Need-returns
 returns c =
     let told = c .before .before in
-    let a = told .before .before .before .args in
+    let a = told .before .before .args in
     c .take-by .ensures ∙ sym (ap (takenFrom (a .seen) (a .view) (a .flags .now) (a .lane) (a .count)) (told .phase .given .1))
 
 returns-2 : tie.Need-returns-2
 returns-2 c =
-    let s = c .before .before .before .args .seen in
+    let s = c .before .before .args .seen in
     c .refuse .ensures ∙ sym (not-holding (refusedChange s 13) _ (s .phase) (c .before .match .keys2))
 
 pub take-spec : {M : Type 1} → statement M

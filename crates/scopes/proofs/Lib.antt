@@ -1,0 +1,2 @@
+-- The laws of what an event calls.
+pub mod Scopes

@@ -1,0 +1,27 @@
+-- An event is the event of the call that it makes.
+use Prim.Native.Nat.{ℕ}
+use mathlib.Core.Path.{_≡_, refl, sym, ap, _∙_}
+use Rattle.event.specs.declared.Event.{Event}
+use Rattle.scopes.specs.declared.LaneCall.{LaneCall}
+use Rattle.scopes.specs.declared.LineCall.{LineCall}
+use Rattle.scopes.specs.declared.Scope.{Scope}
+use Rattle.scopes.specs.Scope.{eventIn, laneEvent, lineEvent, scopeOf}
+
+pub scope-event : (e : Event) → eventIn (scopeOf e) ≡ e
+scope-event (Event.Open lanes capacity) = refl
+scope-event (Event.Want i purpose) = refl
+scope-event (Event.Receive i) = refl
+scope-event (Event.Take i c) = refl
+scope-event (Event.Write i content) = refl
+scope-event (Event.Read i) = refl
+scope-event (Event.Put i k content) = refl
+scope-event (Event.Look i k) = refl
+scope-event (Event.Free i) = refl
+scope-event (Event.Enter i c) = refl
+scope-event (Event.View displacement extent used blocks) = refl
+scope-event (Event.Seek whence offset) = refl
+scope-event Event.Unlisted = refl
+
+-- by what was found out
+pub found-event : (e : Event) (s : Scope) → scopeOf e ≡ s → e ≡ eventIn s
+found-event e s q = sym (scope-event e) ∙ ap eventIn q

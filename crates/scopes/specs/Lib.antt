@@ -1,0 +1,2 @@
+-- What an event calls.
+pub mod Scope
