@@ -69,7 +69,7 @@ size_t gudlemi_run(const uint8_t *sheet, size_t sheet_length,
                    uint8_t *book, size_t book_length,
                    uint8_t *text, size_t text_length);
 
-/* The shortest text_length that gudlemi_run takes for a sheet of this length: 28 for each byte, and 112. It is 112 for
+/* The shortest text_length that gudlemi_run takes for a sheet of this length: 56 for each byte, and 112. It is 112 for
  * an empty sheet, and GUDLEMI_NO_BOUND where that number has more than 64 bits, which no sheet in memory reaches. */
 size_t gudlemi_text_bound(size_t sheet_length);
 

@@ -9,7 +9,7 @@ pub const MOST_LINE: usize = 56;
 /// The least room for the text of a sheet: the bound of the proved program, 28 bytes for each byte
 /// of the sheet and two lines more. An event has at least 2 bytes and a line at most 56.
 pub fn least_room(sheet_length: usize) -> usize {
-    sheet_length * 28 + 2 * MOST_LINE
+    (sheet_length + 2) * MOST_LINE
 }
 
 /// A word of up to 16 bytes, with its length.

@@ -17,7 +17,7 @@ lengthPrinted (Printed.Length n) = n
 lengthPrinted Printed.TooShort = noLength
 
 abbrev pub textBound : ℕ → ℕ
-textBound n = cond (ltb 658812288346769696 n) noLength (mostText n)
+textBound n = cond (ltb 329406144173384848 n) noLength (mostText n)
 
 -- by what is read at an index
 abbrev pub lengthRead : ℕ → Reading → ℕ

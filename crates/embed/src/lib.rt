@@ -8,8 +8,10 @@ ghost use Rattle.run.specs.Runs.{leftByRun, printedBy, textFits, textIn};
 use event::Cursor;
 use event::Reading;
 use line::Line;
+use answer_text::MOST_LINE;
 use answer_text::Printed;
 use run::run;
+use run_text::MOST_LAST;
 
 // Runs a whole sheet from an unopened line over a lent book; the printed lines stand at the start of `text`. The answer is their length,
 // or the greatest number where `text` may be too short, with nothing altered.
@@ -35,10 +37,10 @@ pub extern "C" fn gudlemi_text_bound(sheet: usize) -> usize
     ensures { λ r. ⌜ r ≡ textBound sheet ⌝ }
 {
     // the greatest length for which the product and the sum do not wrap
-    if 658812288346769696 < sheet {
+    if 329406144173384848 < sheet {
         return 18446744073709551615;
     }
-    sheet * 28 + 112
+    sheet * MOST_LINE + MOST_LAST
 }
 
 // The length in bytes of the event at an index of a sheet; 0 at the sheet's end, past it, and where the bytes are no event.

@@ -23,8 +23,11 @@ use Rattle.changes.specs.Change.{applied, changed, entryOf, seenOf}
 use Rattle.changes.specs.declared.Change.{Change}
 use Rattle.changes.specs.declared.Seen.{Seen}
 use Rattle.changes.proofs.Steps.{Regular, entry-is, gathering-kept}
-use Rattle.lane_calls.specs.declared.Scope.{Scope}
-use Rattle.lane_calls.specs.Decided.{bookDecided, decided, scopeOf}
+use Rattle.scopes.specs.declared.LaneCall.{LaneCall}
+use Rattle.scopes.specs.declared.Scope.{Scope}
+use Rattle.scopes.specs.Scope.{scopeOf}
+use Rattle.scopes.proofs.Scopes.{found-event}
+use Rattle.lane_calls.specs.Decided.{Decision, decided}
 use Rattle.lane_calls.proofs.Steps.{decided-regular, decided-step}
 
 -- an outcome that meets a step has all of it
@@ -48,19 +51,19 @@ pub record Called (l : Line) (book : List ℕ) (e : Event) (a : Answer) (line′
   pub called : callEvent (stateOf l book) e ≡ leaves a line′ book′
   pub gathered : any (on isGathered) (line′ .lane) ≡ any (on isGathered) (l .lane)
 
-module _ (l : Line) (book : List ℕ) (lanes-fit : l .lanes ≤ mostLanes) (ok : sound l (length book) ≡ true) (e : Event) (lane : ℕ) (by : scopeOf e ≡ Scope.Lane lane)
-    (c : Change) (book′ : List ℕ) (seen : Seen) (sees : seen ≡ seenOf l (entryOf lane)) (is : c ≡ decided seen lane (l .view) (l .flag) book e) (puts : book′ ≡ bookDecided e book (c .answer)) where
+module _ (l : Line) (book : List ℕ) (lanes-fit : l .lanes ≤ mostLanes) (ok : sound l (length book) ≡ true) (e : Event) (lane : ℕ) (call : LaneCall) (by : scopeOf e ≡ Scope.Lane lane call)
+    (c : Change) (book′ : List ℕ) (seen : Seen) (sees : seen ≡ seenOf l (entryOf lane)) (decision : Decision (decided seen lane (l .view) (l .flag) book call) call book c book′) where
   abbrev j : ℕ
   j = entryOf lane
 
-  change-is : c ≡ decided (seenOf l j) lane (l .view) (l .flag) book e
-  change-is = is ∙ ap (λ (s : Seen). decided s lane (l .view) (l .flag) book e) sees
+  change-is : c ≡ decided (seenOf l j) lane (l .view) (l .flag) book call
+  change-is = decision .is ∙ ap (λ (s : Seen). decided s lane (l .view) (l .flag) book call) sees
 
   regular : Regular (seenOf l j) c
-  regular = rw change-is (decided-regular (seenOf l j) lanes-fit lane (l .view) (l .flag) book e)
+  regular = rw change-is (decided-regular (seenOf l j) lanes-fit lane (l .view) (l .flag) book call)
 
   applies : callEvent (stateOf l book) e ≡ changed l j c book′
-  applies = rw (puts, change-is) (decided-step l book lanes-fit ok e lane by .is)
+  applies = rw (found-event e (Scope.Lane lane call) by, decision .book-left, change-is) (decided-step l book lanes-fit ok call lane .is)
 
   -- where the stores leave what the change leaves
   stores : (line′ : Line) → applied l j c ≡ line′ → Called l book e (c .answer) line′ book′

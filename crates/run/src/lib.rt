@@ -9,15 +9,13 @@ ghost use Rattle.line.specs.Sound.{sound};
 ghost use Rattle.steps.specs.Effects.{woken};
 ghost use Rattle.steps.specs.Meets.{stateOf};
 ghost use Rattle.number_text.specs.Stored.{Stored};
-ghost use Rattle.run_text.specs.RunText.{lastLines, mostText};
+ghost use Rattle.run_text.specs.RunText.{lastLines, mostLast, mostText};
 ghost use Rattle.run.specs.Runs.{RunMeets, RunSound, ended, endsAt};
 use changes::Seen;
 use changes::entry_of;
 use changes::phases::wake_with;
 use event::Reading;
-use lane_calls::Scope;
 use lane_calls::decide;
-use lane_calls::scope_of;
 use lane_tests::tallies::any_gathered;
 use line::Lane;
 use line::Line;
@@ -27,6 +25,8 @@ use answer_text::put_answer;
 use reader::event_at;
 use run_text::has_room;
 use run_text::put_last;
+use scopes::Scope;
+use scopes::scope_of;
 use soundness::is_sound;
 use view::Place;
 use waitlist::Wakes;
@@ -57,10 +57,10 @@ fn wake_lane(waiting: Lane, pointer: Place) -> Lane
 
 // The end of a run: the last lines stored, and the line as it is.
 fn end_run(line: Line, reading: Reading, out: &mut [u8], at: usize, number: u64) -> RunOutcome
-    requires { ⌜ at + 112 ≤ length (now out) ⌝ }
+    requires { ⌜ at + mostLast ≤ length (now out) ⌝ }
     ensures is { λ r. ⌜ r ≡ ended at number reading line ⌝ }
     ensures text { λ r. ⌜ Stored (lastLines number reading line) (now (out .entry)) at (now (out .exit)) (endsAt at number reading line) ⌝ }
-    ensures short { λ r. ⌜ endsAt at number reading line ≤ at + 112 ⌝ }
+    ensures short { λ r. ⌜ endsAt at number reading line ≤ at + mostLast ⌝ }
 {
     let end = put_last(line, reading, out, at, number);
     RunOutcome {
@@ -69,7 +69,7 @@ fn end_run(line: Line, reading: Reading, out: &mut [u8], at: usize, number: u64)
     }
 }
 
-// The run on a sound line, which stays in one local; a change of a lane is stored by its index.
+// The run on a sound line, which stays in one local; a change of a lane is stored by its index. An event that was read is of a listed kind, so that the last arm is never reached.
 fn run_sound(line: Line, book: &mut [u8], sheet: &[u8], out: &mut [u8]) -> RunOutcome
     requires { ⌜ (sound line (length (now book)) ≡ true) × (mostText (length (now sheet)) ≤ length (now out)) ⌝ }
     ensures { λ r. ⌜ RunSound (stateOf line (now (book .entry))) (now (sheet .entry)) (now (out .entry)) r (now (book .exit)) (now (out .exit)) ⌝ }
@@ -87,8 +87,8 @@ fn run_sound(line: Line, book: &mut [u8], sheet: &[u8], out: &mut [u8]) -> RunOu
         };
         at = step.at;
         match scope_of(event) {
-            Scope::Line => {
-                let called = call_line(next, book, event);
+            Scope::Line { call } => {
+                let called = call_line(next, book, call);
                 let answer = called.answer;
                 length = put_answer(out, length, number, answer);
                 number += 1;
@@ -96,7 +96,7 @@ fn run_sound(line: Line, book: &mut [u8], sheet: &[u8], out: &mut [u8]) -> RunOu
                 gathering = some_gathered(after);
                 next = after;
             }
-            Scope::Lane(lane) => {
+            Scope::Lane { lane, call } => {
                 let i = entry_of(lane);
                 let own = next.lane[i];
                 let phase = own.phase;
@@ -110,7 +110,7 @@ fn run_sound(line: Line, book: &mut [u8], sheet: &[u8], out: &mut [u8]) -> RunOu
                     phase,
                     flag: next.flag[i],
                 };
-                let change = decide(seen, lane, next.view, &next.flag, book, event);
+                let change = decide(seen, lane, next.view, &next.flag, book, call);
                 let answer = change.answer;
                 length = put_answer(out, length, number, answer);
                 number += 1;
@@ -126,6 +126,9 @@ fn run_sound(line: Line, book: &mut [u8], sheet: &[u8], out: &mut [u8]) -> RunOu
                     let waiting = next.lane[w];
                     next.lane[w] = wake_lane(waiting, moved);
                 }
+            }
+            Scope::Unlisted => {
+                return end_run(next, Reading::Refused(2), out, length, number);
             }
         }
     }

@@ -5,10 +5,15 @@ use Rattle.line.specs.declared.Line.{Line}
 use Rattle.event.specs.declared.Reading.{Reading}
 use Rattle.steps.specs.declared.Answer.{Answer}
 use Rattle.printout.specs.Print.{answerLine, endLineOf}
+use Rattle.answer_text.specs.Printing.{mostLine}
 
--- no text is longer than this, for a sheet of n bytes: an event has two bytes at least and a line 56 at most; the last two lines are counted apart
+-- the last two lines at most
+abbrev pub mostLast : ℕ
+mostLast = mostLine + mostLine
+
+-- no text is longer than this, for a sheet of n bytes: an event has a byte at least; the last two lines are counted apart
 abbrev pub mostText : ℕ → ℕ
-mostText n = 28 * n + 112
+mostText n = mostLine * n + mostLast
 
 -- the last lines: of bytes that are no event their refusal, numbered k, and then `end`
 abbrev pub lastLines : ℕ → Reading → Line → List ℕ

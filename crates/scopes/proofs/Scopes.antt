@@ -1,6 +1,10 @@
 -- An event is the event of the call that it makes.
 use Prim.Native.Nat.{ℕ}
 use mathlib.Core.Path.{_≡_, refl, sym, ap, _∙_}
+use mathlib.Core.Bool.{true}
+use Rattle.lists.proofs.Tests.{both}
+use Rattle.event.specs.Kinds.{isListed}
+use Rattle.event.specs.Event.{kindOf}
 use Rattle.event.specs.declared.Event.{Event}
 use Rattle.scopes.specs.declared.LaneCall.{LaneCall}
 use Rattle.scopes.specs.declared.LineCall.{LineCall}
@@ -25,3 +29,7 @@ scope-event Event.Unlisted = refl
 -- by what was found out
 pub found-event : (e : Event) (s : Scope) → scopeOf e ≡ s → e ≡ eventIn s
 found-event e s q = sym (scope-event e) ∙ ap eventIn q
+
+-- an event of a listed kind calls something
+pub listed-calls : {X : Type 0} (e : Event) → isListed (kindOf e) ≡ true → scopeOf e ≡ Scope.Unlisted → X
+listed-calls e t q = both t (ap (λ (v : Event). isListed (kindOf v)) (found-event e Scope.Unlisted q))

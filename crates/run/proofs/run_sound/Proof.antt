@@ -5,13 +5,17 @@ use native.Mathlib.Omega.{arith}
 use lib.ListN.{length}
 use borrow.Author.Needs.{needs}
 use Rattle.steps.specs.Meets.{stateOf}
+use Rattle.steps.specs.Step.{callEvent}
+use Rattle.run_text.specs.RunText.{mostLast}
 use Rattle.line.specs.declared.Lane.{Lane}
 use Rattle.line.proofs.Facts.{good-of}
 use Rattle.changes.specs.Change.{entryOf, seenOf}
 use Rattle.changes.specs.declared.Seen.{Seen}
 use Rattle.changes.proofs.Within.{within-good}
-use Rattle.lane_calls.specs.declared.Scope.{Scope}
-use Rattle.lane_calls.specs.Decided.{scopeOf}
+use Rattle.scopes.specs.declared.LaneCall.{LaneCall}
+use Rattle.scopes.specs.declared.Scope.{Scope}
+use Rattle.scopes.specs.Scope.{scopeOf}
+use Rattle.scopes.proofs.Scopes.{found-event, listed-calls}
 use Rattle.event.specs.ReadWrite.{readAt}
 use Rattle.event.specs.declared.Cursor.{Cursor}
 use Rattle.event.specs.declared.Event.{Event}
@@ -47,16 +51,16 @@ event-of c = c .before .before .before .before
 
 -- the scope of the whole line's arm, and of the lane's
 abbrev line-scope : tie.After-some-gathered2 Inv-loop μ-loop → tie.After-scope-of Inv-loop μ-loop
-line-scope c = c .before .before .before .before .before .before .before .before .before .before .before .before
+line-scope c = c .before .before .before .before .before .before .before .before .before .before .before .before .before
 
-abbrev decide-at : tie.After-enum-told2 Inv-loop μ-loop → tie.After-decide Inv-loop μ-loop
+abbrev decide-at : tie.After-enum-told Inv-loop μ-loop → tie.After-decide Inv-loop μ-loop
 decide-at c = c .before .before .before .before .before .before .before .before .before
 
 abbrev decide-at-woken : tie.After-wake-lane Inv-loop μ-loop → tie.After-decide Inv-loop μ-loop
 decide-at-woken c = c .before .before .before .before .before .before .before .before .before .before .before .before .before
 
 abbrev scope-at : tie.After-decide Inv-loop μ-loop → tie.After-scope-of Inv-loop μ-loop
-scope-at d = d .before .before .before .before .before .before .before .before .before .before .before .before .before
+scope-at d = d .before .before .before .before .before .before .before .before .before .before .before .before
 
 -- what was read
 reading-is : (c : tie.After-event-at Inv-loop μ-loop) → readAt (start (loop-at c) .args .sheet .now) (loop-at c .loop .at) ≡ c .event-at .result .reading
@@ -85,14 +89,14 @@ less c =
     omega (arith, at-is c, r .longer, r .within)
 
 -- two lines more fit
-room : (l : tie.At-loop Inv-loop μ-loop) → l .loop .length + 112 ≤ length (l .loop .out)
+room : (l : tie.At-loop Inv-loop μ-loop) → l .loop .length + mostLast ≤ length (l .loop .out)
 room l =
     let inv = l .loop .inv in
     omega (arith, inv .short, inv .inside, inv .out-length, start l .pre .1)
 
 -- ---- what a lane sees
 abbrev entry-at : tie.After-decide Inv-loop μ-loop → tie.After-entry-of Inv-loop μ-loop
-entry-at d = d .before .before .before .before .before .before .before .before .before
+entry-at d = d .before .before .before .before .before .before .before .before
 
 abbrev entry-scope : tie.After-entry-of Inv-loop μ-loop → tie.After-scope-of Inv-loop μ-loop
 entry-scope e = e .before .before .before .before
@@ -110,7 +114,10 @@ sees : (e : tie.After-entry-of Inv-loop μ-loop) → seen-at e ≡ seenOf (entry
 sees e =
     sees-line (entry-loop e .loop .next) (e .entry-of .result) (entryOf (lane-of e)) (entry-loop e .loop .gathering) (e .entry-of .ensures .0) (entry-loop e .loop .inv .gathered)
 
-by-lane : (e : tie.After-entry-of Inv-loop μ-loop) → scopeOf (event (entry-scope e)) ≡ Scope.Lane (lane-of e)
+abbrev call-of : tie.After-entry-of Inv-loop μ-loop → LaneCall
+call-of e = e .before .before .lane .given .0 .1 .0
+
+by-lane : (e : tie.After-entry-of Inv-loop μ-loop) → scopeOf (event (entry-scope e)) ≡ Scope.Lane (lane-of e) (call-of e)
 by-lane e = sym (entry-scope e .scope-of .ensures) ∙ e .before .before .lane .given .1
 
 some-gathered-requires : tie.Need-some-gathered-requires Inv-loop μ-loop
@@ -148,22 +155,18 @@ returns c =
 scope-of-requires : tie.Need-scope-of-requires Inv-loop μ-loop
 scope-of-requires c κs = search needs
 
-enum-told : tie.Need-enum-told Inv-loop μ-loop
-enum-told c = search needs
+enum-known-call : tie.Need-enum-known-call Inv-loop μ-loop
+enum-known-call c = search needs
 
 call-line-requires : tie.Need-call-line-requires Inv-loop μ-loop
-call-line-requires c κs =
-    let told = c .before in
-    let co = told .before .before in
-    let l = loop-at (event-of co) in
-    (is-sound _ _ _ _ _ _ _ _ _ _ (l .loop .inv), sym (co .scope-of .ensures) ∙ told .enum-told .given .1)
+call-line-requires c κs = is-sound _ _ _ _ _ _ _ _ _ _ (loop-at (event-of (c .before .before .before .before)) .loop .inv)
 
 put-answer-requires : tie.Need-put-answer-requires Inv-loop μ-loop
-put-answer-requires c κs = omega (arith, room (loop-at (event-of (c .before .before .before .before .before .before .before))))
+put-answer-requires c κs = omega (arith, room (loop-at (event-of (c .before .before .before .before .before .before .before .before))))
 
 add-number : tie.Need-add-number Inv-loop μ-loop
 add-number c =
-    let l = loop-at (event-of (c .before .before .before .before .before .before .before .before .before .before)) in
+    let l = loop-at (event-of (c .before .before .before .before .before .before .before .before .before .before .before)) in
     omega (arith, l .loop .inv .numbered)
 
 some-gathered-requires-2 : tie.Need-some-gathered-requires-2 Inv-loop μ-loop
@@ -179,7 +182,9 @@ loop-again c =
     let l = loop-at (event-of co) in
     let k = c .before .before .before .before .before .before .before .before in
     let p = c .before .before .before .before in
-    goes-on _ _ _ _ _ _ _ _ _ _ (l .loop .inv) (event co) (cursor co) (event-is co) (k .call-line .result .answer) (k .call-line .result .line) _ (met _ _ _ (k .call-line .ensures))
+    let found = found-event (event co) _ (sym (co .scope-of .ensures) ∙ k .before .before .before .call .given .1) in
+    goes-on _ _ _ _ _ _ _ _ _ _ (l .loop .inv) (event co) (cursor co) (event-is co) (k .call-line .result .answer) (k .call-line .result .line) _
+    (ap (callEvent (stateOf (l .loop .next) (l .loop .book))) found ∙ met _ _ _ (k .call-line .ensures))
     _ _ (p .put-answer .ensures .0) (p .put-answer .ensures .1) _ (c .some-gathered2 .ensures) (k .call-line .kept .1 .0) (p .put-answer .kept .0) _ (at-is co)
 
 enum-known-lane : tie.Need-enum-known-lane Inv-loop μ-loop
@@ -194,12 +199,12 @@ mul-own c = search needs
 element-copy-out-own : tie.Need-element-copy-out-own Inv-loop μ-loop
 element-copy-out-own c = search needs
 
-element-copy-out-t49 : tie.Need-element-copy-out-t49 Inv-loop μ-loop
-element-copy-out-t49 c = search needs
+element-copy-out-t51 : tie.Need-element-copy-out-t51 Inv-loop μ-loop
+element-copy-out-t51 c = search needs
 
 decide-requires : tie.Need-decide-requires Inv-loop μ-loop
 decide-requires c κs =
-    let e = c .before .before .before .before .before .before .before .before in
+    let e = c .before .before .before .before .before .before .before in
     let l = entry-loop e in
     rw (sees e) (within-good (l .loop .next) (length (l .loop .book)) (l .loop .inv .good) (entryOf (lane-of e)))
 
@@ -214,8 +219,8 @@ add-number-2 c =
 element-write-next : tie.Need-element-write-next Inv-loop μ-loop
 element-write-next c = search needs
 
-mul-t40 : tie.Need-mul-t40 Inv-loop μ-loop
-mul-t40 c = search needs
+mul-t42 : tie.Need-mul-t42 Inv-loop μ-loop
+mul-t42 c = search needs
 
 element-set-from-next : tie.Need-element-set-from-next Inv-loop μ-loop
 element-set-from-next c = search needs
@@ -235,8 +240,8 @@ element-copy-out-waiting c = search needs
 wake-lane-requires : tie.Need-wake-lane-requires Inv-loop μ-loop
 wake-lane-requires c κs = search needs
 
-mul-t61 : tie.Need-mul-t61 Inv-loop μ-loop
-mul-t61 c = search needs
+mul-t62 : tie.Need-mul-t62 Inv-loop μ-loop
+mul-t62 c = search needs
 
 element-set-from-next-2 : tie.Need-element-set-from-next-2 Inv-loop μ-loop
 element-set-from-next-2 c = search needs
@@ -255,13 +260,13 @@ loop-again-2 c =
     let w = c .before .before .before .before in
     let wake = c .before .before in
     let G = l .loop .inv in
-    let done = woken-called (l .loop .next) (l .loop .book) (G .good .facts .base .lanes-fit) (is-sound _ _ _ _ _ _ _ _ _ _ G) (event co) (lane-of e) (by-lane e)
-    (d .decide .result) _ (seen-at e) (sees e) (d .decide .ensures .0) (d .decide .ensures .1) (e .entry-of .result) (w .wakes .given .0 .0) (wake .entry-of2 .result) (c .wake-lane .result .phase) (e .entry-of .ensures .0) (w .wakes .given .1) (wake .entry-of2 .ensures .0) (ap (λ (x : Lane). x .phase) (c .wake-lane .ensures)) in
+    let done = woken-called (l .loop .next) (l .loop .book) (G .good .facts .base .lanes-fit) (is-sound _ _ _ _ _ _ _ _ _ _ G) (event co) (lane-of e) (call-of e) (by-lane e)
+    (d .decide .result) _ (seen-at e) (sees e) (d .decide .ensures) (e .entry-of .result) (w .wakes .given .0 .0) (wake .entry-of2 .result) (c .wake-lane .result .phase) (e .entry-of .ensures .0) (w .wakes .given .1) (wake .entry-of2 .ensures .0) (ap (λ (x : Lane). x .phase) (c .wake-lane .ensures)) in
     goes-on _ _ _ _ _ _ _ _ _ _ G (event co) (cursor co) (event-is co) (d .decide .result .answer) _ _ (done .called)
     _ _ (p .put-answer2 .ensures .0) (p .put-answer2 .ensures .1) _ (G .gathered ∙ sym (done .gathered)) (d .decide .kept .1 .1 .1 .1 .0) (p .put-answer2 .kept .0) _ (at-is co)
 
-enum-told-2 : tie.Need-enum-told-2 Inv-loop μ-loop
-enum-told-2 c = search needs
+enum-told : tie.Need-enum-told Inv-loop μ-loop
+enum-told c = search needs
 
 loop-less-3 : tie.Need-loop-less-3 Inv-loop μ-loop
 loop-less-3 c =
@@ -275,10 +280,29 @@ loop-again-3 c =
     let l = entry-loop e in
     let p = c .before .before .before .before .before in
     let G = l .loop .inv in
-    let done = none-called (l .loop .next) (l .loop .book) (G .good .facts .base .lanes-fit) (is-sound _ _ _ _ _ _ _ _ _ _ G) (event co) (lane-of e) (by-lane e)
-    (d .decide .result) _ (seen-at e) (sees e) (d .decide .ensures .0) (d .decide .ensures .1) (e .entry-of .result) (e .entry-of .ensures .0) (c .enum-told2 .given .1) in
+    let done = none-called (l .loop .next) (l .loop .book) (G .good .facts .base .lanes-fit) (is-sound _ _ _ _ _ _ _ _ _ _ G) (event co) (lane-of e) (call-of e) (by-lane e)
+    (d .decide .result) _ (seen-at e) (sees e) (d .decide .ensures) (e .entry-of .result) (e .entry-of .ensures .0) (c .enum-told .given .1) in
     goes-on _ _ _ _ _ _ _ _ _ _ G (event co) (cursor co) (event-is co) (d .decide .result .answer) _ _ (done .called)
     _ _ (p .put-answer2 .ensures .0) (p .put-answer2 .ensures .1) _ (G .gathered ∙ sym (done .gathered)) (d .decide .kept .1 .1 .1 .1 .0) (p .put-answer2 .kept .0) _ (at-is co)
+
+-- an event that was read is of a listed kind
+enum-told-2 : tie.Need-enum-told-2 Inv-loop μ-loop
+enum-told-2 c = search needs
+
+end-run-requires-2 : tie.Need-end-run-requires-2 Inv-loop μ-loop
+end-run-requires-2 c κs = omega (arith, room (loop-at (event-of (c .before .before .before))))
+
+same-length-3 : tie.Need-same-length-3 Inv-loop μ-loop
+same-length-3 c = search needs
+
+same-length-4 : tie.Need-same-length-4 Inv-loop μ-loop
+same-length-4 c = search needs
+
+returns-2 : tie.Need-returns-2 Inv-loop μ-loop
+returns-2 c =
+    let told = c .before .before .before .before in
+    let co = told .before .before in
+    listed-calls (event co) (reads _ _ (event co) (cursor co) (event-is co) .listed) (sym (co .scope-of .ensures) ∙ told .enum-told2 .given .1)
 
 pub run-sound-spec : {M : Type 1} → statement M
 run-sound-spec =
@@ -295,7 +319,7 @@ run-sound-spec =
     same-length-2
     returns
     scope-of-requires
-    enum-told
+    enum-known-call
     call-line-requires
     put-answer-requires
     add-number
@@ -306,22 +330,27 @@ run-sound-spec =
     entry-of-requires
     mul-own
     element-copy-out-own
-    element-copy-out-t49
+    element-copy-out-t51
     decide-requires
     put-answer-requires-2
     add-number-2
     element-write-next
-    mul-t40
+    mul-t42
     element-set-from-next
     enum-known-wakes
     entry-of-requires-2
     mul-waiting
     element-copy-out-waiting
     wake-lane-requires
-    mul-t61
+    mul-t62
     element-set-from-next-2
     loop-less-2
     loop-again-2
-    enum-told-2
+    enum-told
     loop-less-3
-    loop-again-3)
+    loop-again-3
+    enum-told-2
+    end-run-requires-2
+    same-length-3
+    same-length-4
+    returns-2)

@@ -5,20 +5,21 @@ use native.Mathlib.Omega.{arith}
 use lib.Dec.{leb}
 use borrow.Author.Tests.{le-leb, leb-false, leb-true, lt-leb}
 use Rattle.lists.proofs.Tests.{by-test}
-use Rattle.run_text.specs.RunText.{mostText}
+use Rattle.answer_text.specs.Printing.{mostLine}
+use Rattle.run_text.specs.RunText.{mostLast, mostText}
 use Rattle.run_text.proofs.has_room.Statement.{statement}
 use Rattle.run_text.proofs.has_room.Tie as tie
 
 -- the quotient is at least n where the product fits
-quotient : (n m : ℕ) → 112 ≤ m → leb n ((m - 112) / 28) ≡ leb (mostText n) m
+quotient : (n m : ℕ) → mostLast ≤ m → leb n ((m - mostLast) / mostLine) ≡ leb (mostText n) m
 quotient n m h =
     by-test (leb (mostText n) m)
     (λ t. let f = leb-true (mostText n) m t in
-    let g : n ≤ (m - 112) / 28 = omega arith in
-    le-leb n ((m - 112) / 28) g ∙ sym t)
+    let g : n ≤ (m - mostLast) / mostLine = omega arith in
+    le-leb n ((m - mostLast) / mostLine) g ∙ sym t)
     (λ t. let f = leb-false (mostText n) m t in
-    let g : (m - 112) / 28 < n = omega arith in
-    lt-leb n ((m - 112) / 28) g ∙ sym t)
+    let g : (m - mostLast) / mostLine < n = omega arith in
+    lt-leb n ((m - mostLast) / mostLine) g ∙ sym t)
 
 returns : tie.Need-returns
 returns c =
