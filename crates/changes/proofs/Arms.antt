@@ -1,17 +1,32 @@
 -- What the last arm of a match on a phase says, where the tag is one of those that no arm before it has.
 use Prim.Native.Nat.{ℕ}
-use mathlib.Core.Path.{_≡_, refl}
+use mathlib.Core.Path.{_≡_, refl, sym, _∙_}
+use mathlib.Core.Bool.{false}
 use mathlib.Core.List.{List, [], _∷_}
+use lib.Dec.{eqb}
 use types.Run.{OneOf, miss}
 use denote.Enum.Declared.{tagOf}
-use Rattle.view.specs.declared.Place.{Place}
+use borrow.Author.Tests.{ne-eqb}
 use Rattle.line.specs.declared.Phase.{Phase}
-use Rattle.line.specs.Line.{byPhase}
+use Rattle.line.specs.Line.{isHolding, isReading, isWaiting, isWoken, isWriting, phaseNumber}
 use Rattle.line.proofs.Phase.{the-type}
-use Rattle.steps.specs.Effects.{woken}
 
 abbrev tag : Phase → ℕ
 tag x = tagOf the-type x
+
+-- a phase's tag is its number
+tag-number : (x : Phase) → tag x ≡ phaseNumber x
+tag-number Phase.Idle = refl
+tag-number (Phase.Waiting p) = refl
+tag-number (Phase.Woken p v) = refl
+tag-number (Phase.Holding p v) = refl
+tag-number (Phase.BusyWriting left next) = refl
+tag-number (Phase.BusyReading left next) = refl
+tag-number (Phase.Gathered n) = refl
+
+-- a phase whose tag is one of these is not the one with a number that is none of them
+pub not-numbered : (tags : List ℕ) (k : ℕ) → (OneOf tags k → ⊥) → (x : Phase) → OneOf tags (tag x) → eqb (phaseNumber x) k ≡ false
+not-numbered tags k none x one = ne-eqb (phaseNumber x) k (λ e. none (rw (tag-number x ∙ e) at one))
 
 -- the tags of all phases but waiting, but waiting and woken, but holding, but busy writing, and but busy reading
 abbrev but-waiting : List ℕ
@@ -29,48 +44,20 @@ but-writing = 0 ∷ 1 ∷ 2 ∷ 3 ∷ 5 ∷ 6 ∷ []
 abbrev but-reading : List ℕ
 but-reading = 0 ∷ 1 ∷ 2 ∷ 3 ∷ 4 ∷ 6 ∷ []
 
-pub not-waiting : (v : Place) (x : Phase) → OneOf but-waiting (tag x) → woken v x ≡ x
-not-waiting v Phase.Idle k = refl
-not-waiting v (Phase.Waiting p) k = absurd (miss but-waiting 1 tt k)
-not-waiting v (Phase.Woken p w) k = refl
-not-waiting v (Phase.Holding p w) k = refl
-not-waiting v (Phase.BusyWriting left next) k = refl
-not-waiting v (Phase.BusyReading left next) k = refl
-not-waiting v (Phase.Gathered n) k = refl
+pub not-waiting : (x : Phase) → OneOf but-waiting (tag x) → isWaiting x ≡ false
+not-waiting x k = not-numbered but-waiting 1 (miss but-waiting 1 tt) x k
 
-module _ {A : Type 0} (a b : A) where
-  pub not-woken : (c : A) (x : Phase) → OneOf but-woken (tag x) → byPhase a b c a a a a x ≡ a
-  not-woken c Phase.Idle k = refl
-  not-woken c (Phase.Waiting p) k = absurd (miss but-woken 1 tt k)
-  not-woken c (Phase.Woken p v) k = absurd (miss but-woken 2 tt k)
-  not-woken c (Phase.Holding p v) k = refl
-  not-woken c (Phase.BusyWriting left next) k = refl
-  not-woken c (Phase.BusyReading left next) k = refl
-  not-woken c (Phase.Gathered n) k = refl
+pub not-woken : (x : Phase) → OneOf but-woken (tag x) → isWoken x ≡ false
+not-woken x k = not-numbered but-woken 2 (miss but-woken 2 tt) x k
 
-  pub not-holding : (x : Phase) → OneOf but-holding (tag x) → byPhase a a a b a a a x ≡ a
-  not-holding Phase.Idle k = refl
-  not-holding (Phase.Waiting p) k = refl
-  not-holding (Phase.Woken p v) k = refl
-  not-holding (Phase.Holding p v) k = absurd (miss but-holding 3 tt k)
-  not-holding (Phase.BusyWriting left next) k = refl
-  not-holding (Phase.BusyReading left next) k = refl
-  not-holding (Phase.Gathered n) k = refl
+pub nor-waiting : (x : Phase) → OneOf but-woken (tag x) → isWaiting x ≡ false
+nor-waiting x k = not-numbered but-woken 1 (miss but-woken 1 tt) x k
 
-  pub not-writing : (x : Phase) → OneOf but-writing (tag x) → byPhase a a a a b a a x ≡ a
-  not-writing Phase.Idle k = refl
-  not-writing (Phase.Waiting p) k = refl
-  not-writing (Phase.Woken p v) k = refl
-  not-writing (Phase.Holding p v) k = refl
-  not-writing (Phase.BusyWriting left next) k = absurd (miss but-writing 4 tt k)
-  not-writing (Phase.BusyReading left next) k = refl
-  not-writing (Phase.Gathered n) k = refl
+pub not-holding : (x : Phase) → OneOf but-holding (tag x) → isHolding x ≡ false
+not-holding x k = not-numbered but-holding 3 (miss but-holding 3 tt) x k
 
-  pub not-reading : (x : Phase) → OneOf but-reading (tag x) → byPhase a a a a a b a x ≡ a
-  not-reading Phase.Idle k = refl
-  not-reading (Phase.Waiting p) k = refl
-  not-reading (Phase.Woken p v) k = refl
-  not-reading (Phase.Holding p v) k = refl
-  not-reading (Phase.BusyWriting left next) k = refl
-  not-reading (Phase.BusyReading left next) k = absurd (miss but-reading 5 tt k)
-  not-reading (Phase.Gathered n) k = refl
+pub not-writing : (x : Phase) → OneOf but-writing (tag x) → isWriting x ≡ false
+not-writing x k = not-numbered but-writing 4 (miss but-writing 4 tt) x k
+
+pub not-reading : (x : Phase) → OneOf but-reading (tag x) → isReading x ≡ false
+not-reading x k = not-numbered but-reading 5 (miss but-reading 5 tt) x k

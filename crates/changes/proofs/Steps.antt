@@ -8,7 +8,7 @@ use lib.Dec.{eqb, leb}
 use lib.ListN.{getD, length, set}
 use lib.Seq.{set-getD}
 use borrow.Author.Tests.{leb-false, lt-ltb}
-use Rattle.lists.specs.Lists.{any}
+use Rattle.lists.specs.Lists.{somePass}
 use Rattle.lists.proofs.Tests.{at-test, by-test}
 use Rattle.line.specs.declared.Lane.{Lane}
 use Rattle.line.specs.declared.Line.{Line}
@@ -106,7 +106,7 @@ pub next-in : (lanes : ℕ) (flags : List ℕ) (i : ℕ) → lanes ≤ mostLanes
 next-in lanes flags i lanes-fit = found-in lanes (nextLane lanes flags i) (λ j e. next-below lanes flags i j e) lanes-fit
 
 -- ---- so whether a lane is gathered is the same after a change
-any-set : (ls : List Lane) (i : ℕ) (x : Phase) → isGathered x ≡ isGathered (getD ls i idleLane .phase) → any (on isGathered) (set ls i (lane x)) ≡ any (on isGathered) ls
+any-set : (ls : List Lane) (i : ℕ) (x : Phase) → isGathered x ≡ isGathered (getD ls i idleLane .phase) → somePass (on isGathered) (set ls i (lane x)) ≡ somePass (on isGathered) ls
 any-set [] i x e = refl
 any-set (l ∷ ls) zero x e = rw e
 any-set (l ∷ ls) (suc i) x e = rw (any-set ls i x e)
@@ -125,10 +125,10 @@ module _ (l : Line) (i : ℕ) (x : Phase) (own : isGathered x ≡ isGathered (ge
   stored = set (l .lane) i (lane x)
 
   woken-set : (v : Place) (f n : ℕ) (a : Answer) (w : Wakes)
-      → any (on isGathered) (applied l i (record { answer = a; phase = x; flag = f; pointer = v; size = n; wakes = w }) .lane) ≡ any (on isGathered) (l .lane)
+      → somePass (on isGathered) (applied l i (record { answer = a; phase = x; flag = f; pointer = v; size = n; wakes = w }) .lane) ≡ somePass (on isGathered) (l .lane)
   woken-set v f n a (Wakes.Lane j) =
       any-set stored j (woken v (getD stored j idleLane .phase)) (woken-gathered v (getD stored j idleLane .phase)) ∙ any-set (l .lane) i x own
   woken-set v f n a Wakes.None = any-set (l .lane) i x own
 
-pub gathering-kept : (l : Line) (i : ℕ) (c : Change) → Regular (seenOf l i) c → any (on isGathered) (applied l i c .lane) ≡ any (on isGathered) (l .lane)
+pub gathering-kept : (l : Line) (i : ℕ) (c : Change) → Regular (seenOf l i) c → somePass (on isGathered) (applied l i c .lane) ≡ somePass (on isGathered) (l .lane)
 gathering-kept l i c r = woken-set l i (c .phase) (r .gathered) (c .pointer) (c .flag) (c .size) (c .answer) (c .wakes)

@@ -5,7 +5,7 @@ use mathlib.Core.List.{List}
 use lib.Dec.{eqb, leb, ltb}
 use lib.ListN.{getD}
 use mathlib.Core.Path.{_≡_}
-use Rattle.lists.specs.Lists.{any, implies}
+use Rattle.lists.specs.Lists.{somePass, implies}
 use Rattle.view.specs.View.{fits}
 use Rattle.view.specs.declared.View.{View}
 use Rattle.line.specs.declared.Line.{Line}
@@ -31,7 +31,7 @@ seenOf l i =
       capacity = l .capacity;
       size = l .size;
       pointer = l .pointer;
-      gathering = any (on isGathered) (l .lane);
+      gathering = somePass (on isGathered) (l .lane);
       phase = phaseAt l i;
       flag = getD (l .flag) i 0;
     }

@@ -7,7 +7,7 @@ use native.Mathlib.Omega.{arith}
 use lib.ListN.{length}
 use lib.Dec.{eqb, leb, ltb}
 use borrow.Author.Tests.{le-ltb, lt-leb, ne-eqb}
-use Rattle.lists.specs.Lists.{any}
+use Rattle.lists.specs.Lists.{somePass}
 use Rattle.lists.proofs.Tests.{clash}
 use Rattle.view.specs.declared.Place.{Place}
 use Rattle.line.specs.declared.Purpose.{Purpose}
@@ -65,7 +65,7 @@ module _ (x : State) (G : GoodState x) (h : ℕ) (inside : h < x .line .lanes) w
   a-lane : leb (x .line .lanes) h ≡ false
   a-lane = lt-leb (x .line .lanes) h inside
 
-  accepted-by : (e : Event) → any (applying x (given e)) reasons ≡ false → saidBy (stepBy nextLane x (given e) .answer) .accepted ≡ true
+  accepted-by : (e : Event) → somePass (applying x (given e)) reasons ≡ false → saidBy (stepBy nextLane x (given e) .answer) .accepted ≡ true
   accepted-by e q = none-accepts nextLane x (given e) (none-applies x (given e) q)
 
   receive-goes : (p : Purpose) (v : Place) → phaseAt (x .line) h ≡ Phase.Woken p v → saidBy (stepBy nextLane x (given (Event.Receive h)) .answer) .accepted ≡ true

@@ -9,7 +9,7 @@ use native.Mathlib.Decide.{ℕ-discrete}
 use lib.ListN.{getD, set}
 use lib.Dec.{eqb, leb}
 use borrow.Author.Tests.{eq-eqb, ne-eqb}
-use Rattle.lists.specs.Lists.{all, count, sumOf}
+use Rattle.lists.specs.Lists.{allPass, countPass, sumOf}
 use Rattle.lists.proofs.Tests.{at-test, by-test, clash}
 use Rattle.lists.proofs.Counts.{bit-zero}
 use Rattle.view.specs.View.{place, recordEnd}
@@ -33,7 +33,7 @@ use Rattle.steps.proofs.Keeps.{GoodState, fresh-idle, holding-value}
 use Rattle.steps.proofs.Ordered.{busy-by, entered-all, started-by}
 use Rattle.steps.proofs.Stored.{other-phase, placed, same-phase}
 use Rattle.trace.specs.Trace.{Entry, CallBytes, afterAll, callIn, entries, isReset, value}
-use Rattle.demand3.specs.Claim.{OrderedEntry, Grant, Handed, countFor, enteredAfter, enteredNext, grants, grantsBy, handTo, handed, range, shares}
+use Rattle.demand3.specs.Claim.{OrderedEntry, Grant, Handed, countFor, enteredAfter, enteredNext, grants, grantsBy, handTo, handed, placesFrom, shares}
 use Rattle.trace.proofs.Seen.{by-entry, entryOf}
 use Rattle.demand3.proofs.Trace.{entryOn, then, then-good}
 
@@ -44,8 +44,8 @@ places gs = map (λ (h : Handed). h .place) (handed gs)
 abbrev pub total : List Grant → ℕ
 total gs = sumOf (λ (g : Grant). g .count) gs
 
-range-add : (a m k : ℕ) → range a m ++ range (a + m) k ≡ range a (m + k)
-unfolding range
+range-add : (a m k : ℕ) → placesFrom a m ++ placesFrom (a + m) k ≡ placesFrom a (m + k)
+unfolding placesFrom
 range-add a zero k = simp (add-zero, zero-add)
 range-add a (suc m) k = let e : a + suc m ≡ suc a + m = omega arith in rw (e, suc-add m k, range-add (suc a) m k)
 
@@ -53,8 +53,8 @@ map-append : (a b : List Handed) → map (λ (h : Handed). h .place) (a ++ b) �
 map-append [] b = refl
 map-append (h ∷ a) b = rw (map-append a b)
 
-hand-range : (i from n : ℕ) → map (λ (h : Handed). h .place) (handTo i from n) ≡ range from n
-unfolding handTo range
+hand-range : (i from n : ℕ) → map (λ (h : Handed). h .place) (handTo i from n) ≡ placesFrom from n
+unfolding handTo placesFrom
 hand-range i from zero = refl
 hand-range i from (suc n) = rw (hand-range i (suc from) n)
 
@@ -68,17 +68,17 @@ total-append [] b = omega arith
 total-append (g ∷ a) b = let ih = total-append a b in omega arith
 
 -- grants that follow one another
-join : (a b : List Grant) (p q : ℕ) → q ≡ p + total a → places a ≡ range p (total a) → places b ≡ range q (total b) → places (a ++ b) ≡ range p (total (a ++ b))
+join : (a b : List Grant) (p q : ℕ) → q ≡ p + total a → places a ≡ placesFrom p (total a) → places b ≡ placesFrom q (total b) → places (a ++ b) ≡ placesFrom p (total (a ++ b))
 join a b p q e u v = ap (map (λ (h : Handed). h .place)) (handed-append a b) ∙ map-append (handed a) (handed b) ∙ rw (u, v, e, total-append a b) (range-add p (total a) (total b))
 
-one-grant : (g : Grant) → places (g ∷ []) ≡ range (g .from) (total (g ∷ []))
+one-grant : (g : Grant) → places (g ∷ []) ≡ placesFrom (g .from) (total (g ∷ []))
 unfolding handed
 one-grant g =
     let z : g .count + 0 ≡ g .count = omega arith in
     ap (map (λ (h : Handed). h .place)) (append-nil (handTo (g .lane) (g .from) (g .count))) ∙ hand-range (g .lane) (g .from) (g .count) ∙ rw z
 
-shares-range : (ns : List OrderedEntry) (r from n : ℕ) → places (shares ns r from n) ≡ range from (total (shares ns r from n))
-unfolding shares range handed
+shares-range : (ns : List OrderedEntry) (r from n : ℕ) → places (shares ns r from n) ≡ placesFrom from (total (shares ns r from n))
+unfolding shares placesFrom handed
 shares-range ns r from zero = refl
 shares-range ns r from (suc n) =
     let g : Grant = record { lane = r; from = from; count = countFor ns r } in
@@ -109,7 +109,7 @@ shares-total (x ∷ xs) ns k from (suc n) f z =
 -- ---- a step that is no reset hands out its places from the pointer on, and moves the pointer past them
 pub record Moves (x : State) (ns : List OrderedEntry) (e : Entry) (r : Result) : Type 0 where
   pub pointer : r .after .line .pointer .0 ≡ x .line .pointer .0 + total (grantsBy (x .line .lanes) ns e)
-  pub in-order : map (λ (h : Handed). h .place) (handed (grantsBy (x .line .lanes) ns e)) ≡ range (x .line .pointer .0) (total (grantsBy (x .line .lanes) ns e))
+  pub in-order : map (λ (h : Handed). h .place) (handed (grantsBy (x .line .lanes) ns e)) ≡ placesFrom (x .line .pointer .0) (total (grantsBy (x .line .lanes) ns e))
   pub gathers : Gathers (enteredNext ns e) (r .after .line)
   pub lanes : r .after .line .lanes ≡ x .line .lanes
 
@@ -152,7 +152,7 @@ module _ (x : State) (G : GoodState x) (ns : List OrderedEntry) (C : Gathers ns 
   -- a step that hands nothing out, after which every lane has the count that it had
   hands-out-nothing : (e : Entry) (r : Result) → grantsBy (x .line .lanes) ns e ≡ [] → enteredNext ns e ≡ ns → r .after .line .pointer .0 ≡ x .line .pointer .0
       → r .after .line .lanes ≡ x .line .lanes → ((k : ℕ) → countIn (phaseAt (r .after .line) k) ≡ countIn (phaseAt (x .line) k)) → Moves x ns e r
-  unfolding handed range
+  unfolding handed placesFrom
   hands-out-nothing e r g n p q c =
       record {
         pointer = rw g (omega arith);
@@ -161,7 +161,7 @@ module _ (x : State) (G : GoodState x) (ns : List OrderedEntry) (C : Gathers ns 
         lanes = q;
       }
     where
-      nothing : map (λ (h : Handed). h .place) (handed []) ≡ range (x .line .pointer .0) 0
+      nothing : map (λ (h : Handed). h .place) (handed []) ≡ placesFrom (x .line .pointer .0) 0
       nothing = refl
 
   -- lane j changes between phases with no count
@@ -176,7 +176,7 @@ module _ (x : State) (G : GoodState x) (ns : List OrderedEntry) (C : Gathers ns 
       let value = holding-value (x .line) (G .facts) j p v q in
       record {
         pointer = rw (g, al, wake-pointer (lowered (x .line) j y (place (v .0 + c))) (nextOf nextLane (lowered (x .line) j y (place (v .0 + c))) j)) (omega arith);
-        in-order = rw g (one-grant (record { lane = j; from = v .0; count = c }) ∙ ap (λ (m : ℕ). range m (c + 0)) value);
+        in-order = rw g (one-grant (record { lane = j; from = v .0; count = c }) ∙ ap (λ (m : ℕ). placesFrom m (c + 0)) value);
         gathers = record { each = λ k. rw (n, al) (C .each k ∙ sym (wake-count (lowered (x .line) j y (place (v .0 + c))) (nextOf nextLane (lowered (x .line) j y (place (v .0 + c))) j) k ∙ quiet-at j (Phase.Holding p v) y q refl cy k)) };
         lanes = rw al (wake-lanes (lowered (x .line) j y (place (v .0 + c))) (nextOf nextLane (lowered (x .line) j y (place (v .0 + c))) j));
       }
@@ -190,12 +190,12 @@ module _ (x : State) (G : GoodState x) (ns : List OrderedEntry) (C : Gathers ns 
         | no z ↦ rw (ne-eqb j r z, other-phase (x .line) j r (Phase.Gathered c) (λ u. z (sym u))) (C .each r)
       ]
 
-  nothing-handed : map (λ (h : Handed). h .place) (handed []) ≡ range (x .line .pointer .0) 0
-  unfolding handed range
+  nothing-handed : map (λ (h : Handed). h .place) (handed []) ≡ placesFrom (x .line .pointer .0) 0
+  unfolding handed placesFrom
   nothing-handed = refl
 
   -- lane j is the last to enter
-  complete-moves : (j c : ℕ) → j < x .line .lanes → phaseAt (x .line) j ≡ Phase.Idle → all (on isIdleOrGathered) (x .line .lane) ≡ true → (d : Entry)
+  complete-moves : (j c : ℕ) → j < x .line .lanes → phaseAt (x .line) j ≡ Phase.Idle → allPass (on isIdleOrGathered) (x .line .lane) ≡ true → (d : Entry)
       → Moves x ns (entryOf (Event.Enter j c) d (saidBy (ordered x (entered (x .line) j c) .answer))) (ordered x (entered (x .line) j c))
   unfolding countFor
   complete-moves j c h q g d =
@@ -242,7 +242,7 @@ module _ (x : State) (G : GoodState x) (ns : List OrderedEntry) (C : Gathers ns 
 
 -- ---- over a stretch of calls with no reset
 pub record Placed (x : State) (gs : List CallBytes) (ns : List OrderedEntry) : Type 0 where
-  pub in-order : map (λ (h : Handed). h .place) (handed (grants (x .line .lanes) ns (entries nextLane x gs))) ≡ range (x .line .pointer .0) (total (grants (x .line .lanes) ns (entries nextLane x gs)))
+  pub in-order : map (λ (h : Handed). h .place) (handed (grants (x .line .lanes) ns (entries nextLane x gs))) ≡ placesFrom (x .line .pointer .0) (total (grants (x .line .lanes) ns (entries nextLane x gs)))
   pub last : afterAll nextLane x gs .line .pointer .0 ≡ x .line .pointer .0 + total (grants (x .line .lanes) ns (entries nextLane x gs))
 
 moves-on : (x : State) → GoodState x → (ns : List OrderedEntry) → Gathers ns (x .line) → (g : CallBytes) → isReset (entryOn x g) ≡ false → Moves x ns (entryOn x g) (stepBy nextLane x (callIn g))
@@ -260,15 +260,15 @@ first-then g gs x ns m P =
     let ms = enteredNext ns (entryOn x g) in
     let a = grantsBy (x .line .lanes) ns (entryOn x g) in
     let b : List Grant = grants (x .line .lanes) ms (entries nextLane (then x g) gs) in
-    let places-b : places b ≡ range (then x g .line .pointer .0) (total b) = rw (m .lanes) at (P .in-order) in
+    let places-b : places b ≡ placesFrom (then x g .line .pointer .0) (total b) = rw (m .lanes) at (P .in-order) in
     let last-b : afterAll nextLane (then x g) gs .line .pointer .0 ≡ then x g .line .pointer .0 + total b = rw (m .lanes) at (P .last) in
     record {
       in-order = join a b (x .line .pointer .0) (then x g .line .pointer .0) (m .pointer) (m .in-order) places-b;
       last = sums (afterAll nextLane (then x g) gs .line .pointer .0) (total a) (total b) (x .line .pointer .0) (then x g .line .pointer .0) last-b (m .pointer) ∙ ap (λ (n : ℕ). x .line .pointer .0 + n) (sym (total-append a b));
     }
 
-pub all-placed : (gs : List CallBytes) (x : State) (ns : List OrderedEntry) → GoodState x → Gathers ns (x .line) → count isReset (entries nextLane x gs) ≡ 0 → Placed x gs ns
-unfolding entries grants afterBy handed range
+pub all-placed : (gs : List CallBytes) (x : State) (ns : List OrderedEntry) → GoodState x → Gathers ns (x .line) → countPass isReset (entries nextLane x gs) ≡ 0 → Placed x gs ns
+unfolding entries grants afterBy handed placesFrom
 all-placed [] x ns G C z = record { in-order = refl; last = omega arith }
 all-placed (g ∷ gs) x ns G C z =
     let f : isReset (entryOn x g) ≡ false = bit-zero (isReset (entryOn x g)) (omega arith) in

@@ -8,16 +8,16 @@ use native.Mathlib.Decide.{ℕ-discrete}
 use lib.ListN.{getD}
 use lib.Dec.{eqb, leb}
 use borrow.Author.Tests.{eq-eqb, ne-eqb}
-use Rattle.lists.specs.Lists.{any}
+use Rattle.lists.specs.Lists.{somePass}
 use Rattle.lists.proofs.Tests.{at-test, by-test, clash}
 use Rattle.lists.proofs.Counts.{all-getD}
 use Rattle.view.specs.View.{place, recordEnd}
 use Rattle.view.specs.declared.Place.{Place}
 use Rattle.line.specs.declared.Purpose.{Purpose}
 use Rattle.line.specs.declared.Phase.{Phase}
-use Rattle.line.specs.Line.{idleLane, isIdleOrGathered, on, phaseAt}
+use Rattle.line.specs.Line.{idleLane, isFlagged, isIdleOrGathered, on, phaseAt}
 use Rattle.line.specs.Line as phases
-use Rattle.line.proofs.Phases.{isUp}
+
 use Rattle.waitlist.specs.NextLane.{nextLane, wakesValues}
 use Rattle.waitlist.specs.declared.Wakes.{Wakes}
 use Rattle.event.specs.Event.{given}
@@ -73,7 +73,7 @@ ready-off (Phase.BusyReading n k) e = clash (sym e)
 ready-off (Phase.Gathered n) e = refl
 
 -- a lane whose flag is not up stands off
-down-off : (y : Phase) → isUp y ≡ false → statusOf y ≡ off
+down-off : (y : Phase) → isFlagged y ≡ false → statusOf y ≡ off
 down-off Phase.Idle e = refl
 down-off (Phase.Waiting p) e = clash e
 down-off (Phase.Woken p v) e = clash e
@@ -117,7 +117,7 @@ module _ (x : State) (G : GoodState x) (i : ℕ) where
     where
       go : (m : Wakes) → nextOf nextLane (lowered (x .line) k y q) k ≡ m → statusNext i now e ≡ statusOf (phaseAt (a .after .line) i)
       go Wakes.None t =
-          let w : wakes i e ≡ false = ap (any (eqb i)) (wv ∙ ap wakesValues t) in
+          let w : wakes i e ≡ false = ap (somePass (eqb i)) (wv ∙ ap wakesValues t) in
           sn ∙ rw (w, al ∙ ap (wake (lowered (x .line) k y q)) t, stored-stand k y (L .inside), yo)
       go (Wakes.Lane w) t =
           sn ∙ elim (ℕ-discrete i w) [
@@ -129,7 +129,7 @@ module _ (x : State) (G : GoodState x) (i : ℕ) where
           C = chosen (x .line) (G .facts) k o y q L w t
 
           names : wakes i e ≡ eqb i w
-          names = ap (any (eqb i)) (wv ∙ ap wakesValues t) ∙ or-false (eqb i w)
+          names = ap (somePass (eqb i)) (wv ∙ ap wakesValues t) ∙ or-false (eqb i w)
 
           lines : a .after .line ≡ wake (lowered (x .line) k y q) (Wakes.Lane w)
           lines = al ∙ ap (wake (lowered (x .line) k y q)) t
@@ -180,7 +180,7 @@ module _ (x : State) (G : GoodState x) (i : ℕ) where
       at-test (λ (t : Result). Stood now i (entryOf (Event.Enter j c) d (saidBy (t .answer))) t) (allEntered (x .line) (entered (x .line) j c)) _ _
       (λ t. record {
         is = ready-off (phaseAt (x .line) i) (all-getD (on isIdleOrGathered) (x .line .lane) i idleLane g refl)
-            ∙ sym (down-off ((getD (started (x .line .pointer .0) (entered (x .line) j c)) i idleLane) .phase) (started-by (λ (y : Phase). isUp y ≡ false) refl (λ n v. refl) (x .line .pointer .0) (entered (x .line) j c) (entered-all (x .line) j c g) i));
+            ∙ sym (down-off ((getD (started (x .line .pointer .0) (entered (x .line) j c)) i idleLane) .phase) (started-by (λ (y : Phase). isFlagged y ≡ false) refl (λ n v. refl) (x .line .pointer .0) (entered (x .line) j c) (entered-all (x .line) j c g) i));
       })
       (λ t. record { is = same-stand j Phase.Idle (Phase.Gathered c) h q refl })
   stand-event e d r (views displacement extent used blocks z o g) = record { is = refl }

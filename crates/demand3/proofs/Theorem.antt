@@ -5,7 +5,7 @@ use mathlib.Core.Bool.{true, cond}
 use mathlib.Core.List.{List, [], _∷_, _++_}
 use native.Mathlib.Omega.{arith}
 use lib.Dec.{leb}
-use Rattle.lists.specs.Lists.{count}
+use Rattle.lists.specs.Lists.{countPass}
 use Rattle.lists.proofs.Tests.{and-left, by-test}
 use Rattle.view.specs.View.{recordEnd}
 use Rattle.line.specs.declared.Phase.{Phase}
@@ -125,7 +125,7 @@ module _ (book : List ℕ) (early later : List CallBytes) (first : CallBytes) wh
   abbrev begun : List CallBytes
   begun = early ++ first ∷ []
 
-  placed-here : count isReset (entriesAfter nextLane book begun later) ≡ 0 → InOrder nextLane book begun later
+  placed-here : countPass isReset (entriesAfter nextLane book begun later) ≡ 0 → InOrder nextLane book begun later
   placed-here z =
       let ns = enteredAfter [] (entriesOf nextLane book begun) in
       let P = all-placed later (here book begun) ns (good book begun) (gathers-all begun (fresh book) [] (unopened-good book) (start-gathers book)) z in

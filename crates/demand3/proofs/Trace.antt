@@ -7,7 +7,7 @@ use mathlib.Core.List.{List, [], _∷_}
 use native.Mathlib.Omega.{arith}
 use native.Mathlib.Decide.{decLt, ℕ-discrete}
 use borrow.Author.Tests.{eq-eqb, ne-eqb}
-use Rattle.lists.specs.Lists.{bit, count}
+use Rattle.lists.specs.Lists.{bit, countPass}
 use Rattle.lists.proofs.Tests.{both}
 use Rattle.line.specs.declared.Line.{Line}
 use Rattle.line.specs.Line.{hasTurn, isWaiting, phaseAt}
@@ -49,7 +49,7 @@ waiter-other l i h wi th z = both th (ap (λ (k : ℕ). hasTurn (phaseAt l k)) (
 
 -- the wake is sent no later than at the release whose number is the distance
 pub sent : (gs : List CallBytes) (x : State) (i h : ℕ) → GoodState x → isWaiting (phaseAt (x .line) i) ≡ true → hasTurn (phaseAt (x .line) h) ≡ true
-    → distance (x .line .lanes) h i ≤ count isRelease (entries nextLane x gs) → 1 ≤ count (wakes i) (entries nextLane x gs)
+    → distance (x .line .lanes) h i ≤ countPass isRelease (entries nextLane x gs) → 1 ≤ countPass (wakes i) (entries nextLane x gs)
 unfolding entries
 sent [] x i h G wi th d =
     let k = up-inside (x .line) (G .facts) h (turn-up (phaseAt (x .line) h) th) in
@@ -58,26 +58,26 @@ sent (g ∷ gs) x i h G wi th d = go (turn-on x G i h wi th g) (λ j. sent gs (t
   where
     go : Turn x i h (entryOn x g) (stepBy nextLane x (callIn g))
         → ((j : ℕ) → isWaiting (phaseAt (then x g .line) i) ≡ true → hasTurn (phaseAt (then x g .line) j) ≡ true
-        → distance (then x g .line .lanes) j i ≤ count isRelease (entries nextLane (then x g) gs) → 1 ≤ count (wakes i) (entries nextLane (then x g) gs))
-        → 1 ≤ bit (wakes i (entryOn x g)) + count (wakes i) (entries nextLane (then x g) gs)
+        → distance (then x g .line .lanes) j i ≤ countPass isRelease (entries nextLane (then x g) gs) → 1 ≤ countPass (wakes i) (entries nextLane (then x g) gs))
+        → 1 ≤ bit (wakes i (entryOn x g)) + countPass (wakes i) (entries nextLane (then x g) gs)
     go (no-release a b n w t) ih =
-        let d' : distance (x .line .lanes) h i ≤ bit false + count isRelease (entries nextLane (then x g) gs) = rw a at d in
+        let d' : distance (x .line .lanes) h i ≤ bit false + countPass isRelease (entries nextLane (then x g) gs) = rw a at d in
         let r = ih h w t (rw n (omega arith)) in omega arith
     go (wakes-waiter a b w) ih = rw b (omega arith)
     go (nearer j a b ne n w t near) ih =
-        let d' : distance (x .line .lanes) h i ≤ bit true + count isRelease (entries nextLane (then x g) gs) = rw a at d in
+        let d' : distance (x .line .lanes) h i ≤ bit true + countPass isRelease (entries nextLane (then x g) gs) = rw a at d in
         let r = ih j w t (rw n (omega arith)) in omega arith
 
 -- until i is woken a lane is woken at most once, and only one that is nearer to i than the lane with the turn
 pub fair : (gs : List CallBytes) (x : State) (i h j : ℕ) → GoodState x → isWaiting (phaseAt (x .line) i) ≡ true → hasTurn (phaseAt (x .line) h) ≡ true
-    → count (wakes i) (entries nextLane x gs) ≡ 0
-    → (count (wakes j) (entries nextLane x gs) ≤ 1) × (distance (x .line .lanes) h i ≤ distance (x .line .lanes) j i → count (wakes j) (entries nextLane x gs) ≡ 0)
+    → countPass (wakes i) (entries nextLane x gs) ≡ 0
+    → (countPass (wakes j) (entries nextLane x gs) ≤ 1) × (distance (x .line .lanes) h i ≤ distance (x .line .lanes) j i → countPass (wakes j) (entries nextLane x gs) ≡ 0)
 unfolding entries
 fair [] x i h j G wi th z = (omega arith, λ d. refl)
 fair (g ∷ gs) x i h j G wi th z = go (turn-on x G i h wi th g) (λ k. fair gs (then x g) i k j (then-good x g G))
   where
     later : ℕ → ℕ
-    later m = count (wakes m) (entries nextLane (then x g) gs)
+    later m = countPass (wakes m) (entries nextLane (then x g) gs)
 
     go : Turn x i h (entryOn x g) (stepBy nextLane x (callIn g))
         → ((k : ℕ) → isWaiting (phaseAt (then x g .line) i) ≡ true → hasTurn (phaseAt (then x g .line) k) ≡ true → later i ≡ 0
@@ -95,30 +95,30 @@ fair (g ∷ gs) x i h j G wi th z = go (turn-on x G i h wi th g) (λ k. fair gs 
         ]
 
 -- a lane that does not wait is not woken before its next accepted want
-pub never : (gs : List CallBytes) (x : State) (i : ℕ) → GoodState x → isWaiting (phaseAt (x .line) i) ≡ false → count (wantsBy i) (entries nextLane x gs) ≡ 0
-    → count (wakes i) (entries nextLane x gs) ≡ 0
+pub never : (gs : List CallBytes) (x : State) (i : ℕ) → GoodState x → isWaiting (phaseAt (x .line) i) ≡ false → countPass (wantsBy i) (entries nextLane x gs) ≡ 0
+    → countPass (wakes i) (entries nextLane x gs) ≡ 0
 unfolding entries
 never [] x i G wi z = refl
 never (g ∷ gs) x i G wi z = go (rests-on x G i wi g) (λ w. never gs (then x g) i (then-good x g G) w (omega arith))
   where
-    go : Rests i (entryOn x g) (stepBy nextLane x (callIn g)) → (isWaiting (phaseAt (then x g .line) i) ≡ false → count (wakes i) (entries nextLane (then x g) gs) ≡ 0)
-        → bit (wakes i (entryOn x g)) + count (wakes i) (entries nextLane (then x g) gs) ≡ 0
+    go : Rests i (entryOn x g) (stepBy nextLane x (callIn g)) → (isWaiting (phaseAt (then x g .line) i) ≡ false → countPass (wakes i) (entries nextLane (then x g) gs) ≡ 0)
+        → bit (wakes i (entryOn x g)) + countPass (wakes i) (entries nextLane (then x g) gs) ≡ 0
     go q ih = rw (q .unwoken) (either (q .unwaiting))
       where
-        either : (wantsBy i (entryOn x g) ≡ true) ⊎ (isWaiting (phaseAt (then x g .line) i) ≡ false) → bit false + count (wakes i) (entries nextLane (then x g) gs) ≡ 0
-        either (inl t) = let z' : bit true + count (wantsBy i) (entries nextLane (then x g) gs) ≡ 0 = rw t at z in absurd (omega arith)
+        either : (wantsBy i (entryOn x g) ≡ true) ⊎ (isWaiting (phaseAt (then x g .line) i) ≡ false) → bit false + countPass (wakes i) (entries nextLane (then x g) gs) ≡ 0
+        either (inl t) = let z' : bit true + countPass (wantsBy i) (entries nextLane (then x g) gs) ≡ 0 = rw t at z in absurd (omega arith)
         either (inr t) = let q = ih t in omega arith
 
 -- a lane that waits is woken at most once before its next accepted want
 pub single : (gs : List CallBytes) (x : State) (i h : ℕ) → GoodState x → isWaiting (phaseAt (x .line) i) ≡ true → hasTurn (phaseAt (x .line) h) ≡ true
-    → count (wantsBy i) (entries nextLane x gs) ≡ 0 → count (wakes i) (entries nextLane x gs) ≤ 1
+    → countPass (wantsBy i) (entries nextLane x gs) ≡ 0 → countPass (wakes i) (entries nextLane x gs) ≤ 1
 unfolding entries
 single [] x i h G wi th z = omega arith
 single (g ∷ gs) x i h G wi th z = go (turn-on x G i h wi th g) (λ k u v. single gs (then x g) i k (then-good x g G) u v (omega arith))
   where
     go : Turn x i h (entryOn x g) (stepBy nextLane x (callIn g))
-        → ((k : ℕ) → isWaiting (phaseAt (then x g .line) i) ≡ true → hasTurn (phaseAt (then x g .line) k) ≡ true → count (wakes i) (entries nextLane (then x g) gs) ≤ 1)
-        → bit (wakes i (entryOn x g)) + count (wakes i) (entries nextLane (then x g) gs) ≤ 1
+        → ((k : ℕ) → isWaiting (phaseAt (then x g .line) i) ≡ true → hasTurn (phaseAt (then x g .line) k) ≡ true → countPass (wakes i) (entries nextLane (then x g) gs) ≤ 1)
+        → bit (wakes i (entryOn x g)) + countPass (wakes i) (entries nextLane (then x g) gs) ≤ 1
     go (no-release a b n w t) ih = rw (b i) (let q = ih h w t in omega arith)
     go (wakes-waiter a b w) ih = let q = never gs (then x g) i (then-good x g G) w (omega arith) in rw b (omega arith)
     go (nearer k a b ne n w t near) ih = rw (b i, ne-eqb i k (λ z. ne (sym z))) (let q = ih k w t in omega arith)

@@ -8,7 +8,7 @@ use native.Mathlib.Decide.{decLt, ℕ-discrete}
 use lib.ListN.{getD}
 use lib.Dec.{eqb, leb}
 use borrow.Author.Tests.{eq-eqb, ne-eqb}
-use Rattle.lists.specs.Lists.{all, any, count}
+use Rattle.lists.specs.Lists.{allPass, somePass, countPass}
 use Rattle.lists.proofs.Tests.{at-test, both, by-test, clash}
 use Rattle.lists.proofs.Counts.{all-count, count-find, count-one, count-pos, set-keeps}
 use Rattle.view.specs.View.{place, recordEnd}
@@ -17,9 +17,9 @@ use Rattle.line.specs.declared.Purpose.{Purpose}
 use Rattle.line.specs.declared.Phase.{Phase}
 use Rattle.line.specs.declared.Lane.{Lane}
 use Rattle.line.specs.declared.Line.{Line}
-use Rattle.line.specs.Line.{hasTurn, idleLane, isIdle, isIdleOrGathered, isWaiting, lane, on, phaseAt}
+use Rattle.line.specs.Line.{hasTurn, idleLane, isFlagged, isIdle, isIdleOrGathered, isWaiting, lane, on, phaseAt}
 use Rattle.line.proofs.Facts.{Facts}
-use Rattle.line.proofs.Phases.{isUp, waiting-up}
+use Rattle.line.proofs.Phases.{waiting-up}
 use Rattle.waitlist.specs.Distance.{distance}
 use Rattle.waitlist.specs.NextLane.{nextLane, wakesValues}
 use Rattle.waitlist.specs.declared.Wakes.{Wakes}
@@ -37,7 +37,7 @@ use Rattle.trace.specs.Trace.{Entry, isRelease, wakes, wantsBy, wokenBy}
 use Rattle.trace.proofs.Seen.{entryOf}
 
 -- ---- phases
-pub turn-up : (y : Phase) → hasTurn y ≡ true → isUp y ≡ true
+pub turn-up : (y : Phase) → hasTurn y ≡ true → isFlagged y ≡ true
 turn-up Phase.Idle e = clash (sym e)
 turn-up (Phase.Waiting p) e = clash (sym e)
 turn-up (Phase.Woken p v) e = refl
@@ -60,12 +60,12 @@ waits-no-turn (Phase.Gathered n) e = refl
 pub differ : (p : Phase → Bool) (l : Line) (i j : ℕ) (o : Phase) → phaseAt l j ≡ o → p o ≡ false → p (phaseAt l i) ≡ true → i ≢ j
 differ p l i j o e f t z = both t (ap (λ (k : ℕ). p (phaseAt l k)) z ∙ ap p e ∙ f)
 
-pub up-inside : (l : Line) → Facts l → (i : ℕ) → isUp (phaseAt l i) ≡ true → i < l .lanes
+pub up-inside : (l : Line) → Facts l → (i : ℕ) → isFlagged (phaseAt l i) ≡ true → i < l .lanes
 up-inside l F i u =
-    elim (decLt i (l .lanes)) [ yes h ↦ h | no h ↦ let e : isUp (phaseAt l i) ≡ false = rw (F .base .past i (omega arith)) in both u e ]
+    elim (decLt i (l .lanes)) [ yes h ↦ h | no h ↦ let e : isFlagged (phaseAt l i) ≡ false = rw (F .base .past i (omega arith)) in both u e ]
 
-pub up-count : (l : Line) → Facts l → (i : ℕ) → isUp (phaseAt l i) ≡ true → 0 < count (on isUp) (l .lane)
-up-count l F i u = count-pos (on isUp) (l .lane) i idleLane (short l (F .base) i (up-inside l F i u)) u
+pub up-count : (l : Line) → Facts l → (i : ℕ) → isFlagged (phaseAt l i) ≡ true → 0 < countPass (on isFlagged) (l .lane)
+up-count l F i u = count-pos (on isFlagged) (l .lane) i idleLane (short l (F .base) i (up-inside l F i u)) u
 
 -- two lanes with the turn are one
 pub same-turn : (l : Line) → Facts l → (i j : ℕ) → hasTurn (phaseAt l i) ≡ true → hasTurn (phaseAt l j) ≡ true → i ≡ j
@@ -75,7 +75,7 @@ same-turn l F i j a b =
     count-one (on hasTurn) (l .lane) i j idleLane hi hj a b (omega (arith, F .turn .one))
 
 -- where a flag is up, one lane has the turn
-pub turn-found : (l : Line) → Facts l → 0 < count (on isUp) (l .lane) → (h : ℕ) × (hasTurn (phaseAt l h) ≡ true)
+pub turn-found : (l : Line) → Facts l → 0 < countPass (on isFlagged) (l .lane) → (h : ℕ) × (hasTurn (phaseAt l h) ≡ true)
 turn-found l F u = let r = count-find (on hasTurn) (l .lane) idleLane (omega (arith, F .turn .one)) in (r .0, r .2)
 
 -- ---- a step while lane i waits and lane h has the turn
@@ -91,16 +91,16 @@ pub data Turn (x : State) (i h : ℕ) (e : Entry) (r : Result) : Type 0 where
 
 -- the lanes that a release's values name
 woken-lane : (e : Entry) (w j : ℕ) → wokenBy e ≡ wakesValues (Wakes.Lane w) → wakes j e ≡ eqb j w
-woken-lane e w j q = ap (any (eqb j)) q ∙ or-false (eqb j w)
+woken-lane e w j q = ap (somePass (eqb j)) q ∙ or-false (eqb j w)
 
 woken-none : (e : Entry) (j : ℕ) → wokenBy e ≡ wakesValues Wakes.None → wakes j e ≡ false
-woken-none e j q = ap (any (eqb j)) q
+woken-none e j q = ap (somePass (eqb j)) q
 
 module _ (x : State) (G : GoodState x) (i h : ℕ) (wi : isWaiting (phaseAt (x .line) i) ≡ true) (th : hasTurn (phaseAt (x .line) h) ≡ true) where
   inside : i < x .line .lanes
   inside = up-inside (x .line) (G .facts) i (waiting-up (phaseAt (x .line) i) wi)
 
-  some-up : 0 < count (on isUp) (x .line .lane)
+  some-up : 0 < countPass (on isFlagged) (x .line .lane)
   some-up = up-count (x .line) (G .facts) i (waiting-up (phaseAt (x .line) i) wi)
 
   -- another lane's phase changes, one that neither waits nor has the turn
@@ -152,10 +152,10 @@ module _ (x : State) (G : GoodState x) (i h : ℕ) (wi : isWaiting (phaseAt (x .
           there j n = other-phase (lowered (x .line) k y q) w j (woken q (phaseAt (lowered (x .line) k y q) w)) n
 
   -- an ordered call, a change of view or a seek needs that no flag is up
-  none-ready : all (on isIdleOrGathered) (x .line .lane) ≡ true → ⊥
+  none-ready : allPass (on isIdleOrGathered) (x .line .lane) ≡ true → ⊥
   none-ready e = omega (arith, some-up, kinds-count (x .line .lane), ready-count (x .line .lane) e)
 
-  none-idle : all (on isIdle) (x .line .lane) ≡ true → ⊥
+  none-idle : allPass (on isIdle) (x .line .lane) ≡ true → ⊥
   none-idle e = omega (arith, some-up, kinds-count (x .line .lane), all-count (on isIdle) (x .line .lane) e)
 
   pub turn : (e : Event) (d : Entry) (r : Result) → Steps nextLane x (given e) r → Turn x i h (entryOf e d (saidBy (r .answer))) r

@@ -4,7 +4,7 @@ use mathlib.Core.Path.{_≡_}
 use mathlib.Core.Bool.{Bool, true, false, cond, _&&_}
 use mathlib.Core.List.{List, [], _∷_, _++_, map}
 use lib.Dec.{eqb}
-use Rattle.lists.specs.Lists.{count, sumOf}
+use Rattle.lists.specs.Lists.{countPass, sumOf}
 use Rattle.line.specs.declared.Purpose.{Purpose}
 use Rattle.waitlist.specs.Distance.{distance}
 use Rattle.waitlist.specs.NextLane.{nextLane}
@@ -131,9 +131,9 @@ handed [] = []
 handed (g ∷ gs) = handTo (g .lane) (g .from) (g .count) ++ handed gs
 
 -- first, first + 1, .. : as many as `count`
-unfoldable pub range : ℕ → ℕ → List ℕ
-range first zero = []
-range first (suc count) = first ∷ range (suc first) count
+unfoldable pub placesFrom : ℕ → ℕ → List ℕ
+placesFrom first zero = []
+placesFrom first (suc count) = first ∷ placesFrom (suc first) count
 
 -- ---- the claim
 module _ (search : Search) (book : List ℕ) where
@@ -156,13 +156,13 @@ module _ (search : Search) (book : List ℕ) where
   lanesAfter early = lanesIn 0 (entriesOf early)
 
   abbrev pub releases : List CallBytes → List CallBytes → ℕ
-  releases early later = count isRelease (entriesAfter early later)
+  releases early later = countPass isRelease (entriesAfter early later)
 
   abbrev pub wakesOf : ℕ → List CallBytes → List CallBytes → ℕ
-  wakesOf j early later = count (wakes j) (entriesAfter early later)
+  wakesOf j early later = countPass (wakes j) (entriesAfter early later)
 
   abbrev pub wantsOf : ℕ → List CallBytes → List CallBytes → ℕ
-  wantsOf j early later = count (wantsBy j) (entriesAfter early later)
+  wantsOf j early later = countPass (wantsBy j) (entriesAfter early later)
 
   -- what `later` hands out
   abbrev pub grantsIn : List CallBytes → List CallBytes → List Grant
@@ -191,7 +191,7 @@ module _ (search : Search) (book : List ℕ) where
 
   -- the places handed out by `later`, after `early`, which ends with an opening, a change of view or a seek: first, first + 1, .. last − 1
   pub record InOrder (early later : List CallBytes) : Type 0 where
-    pub places : map (λ (h : Handed). h .place) (handed (grantsIn early later)) ≡ range (pointerAfter early) (pointerAfter (early ++ later) - pointerAfter early)
+    pub places : map (λ (h : Handed). h .place) (handed (grantsIn early later)) ≡ placesFrom (pointerAfter early) (pointerAfter (early ++ later) - pointerAfter early)
     pub last : pointerAfter (early ++ later) ≡ pointerAfter early + sumOf (λ (g : Grant). g .count) (grantsIn early later)
 
   pub record Demand3 (calls : List CallBytes) : Type 0 where
@@ -204,7 +204,7 @@ module _ (search : Search) (book : List ℕ) where
     pub goes-on : (early rest : List CallBytes) (h : ℕ) → calls ≡ early ++ rest → statusHasTurn (status h off (entriesOf early)) ≡ true → NextAccepted early h
     -- from an opening, seek or change of view to the next of these or the list's end
     pub in-order : (early later rest : List CallBytes) (first : CallBytes) → calls ≡ (early ++ first ∷ []) ++ (later ++ rest)
-        → isReset (entryAfter early first) ≡ true → count isReset (entriesAfter (early ++ first ∷ []) later) ≡ 0
+        → isReset (entryAfter early first) ≡ true → countPass isReset (entriesAfter (early ++ first ∷ []) later) ≡ 0
         → InOrder (early ++ first ∷ []) later
 
 -- of the line's own search

@@ -10,17 +10,17 @@ use lib.ListN.{length, set, List·getD-map}
 use lib.Seq.{getD-set-other, getD-set-same}
 use lib.Dec.{eqb}
 use borrow.Author.Tests.{le-leb, le-ltb, leb-false, ne-eqb, not-false}
-use Rattle.lists.specs.Lists.{any}
+use Rattle.lists.specs.Lists.{somePass}
 use Rattle.lists.proofs.Tests.{both, by-test, clash}
 use Rattle.lists.proofs.Counts.{all-from, all-set, any-count, count-one}
 use Rattle.view.specs.View.{blockRecord, endOfBook, inOrder, positionOf, viewOk}
 use Rattle.view.specs.declared.Place.{Place}
 use Rattle.line.specs.declared.Phase.{Phase}
 use Rattle.line.specs.declared.Lane.{Lane}
-use Rattle.line.specs.Line.{flagFor, hasTurn, idleLane, isGathered, isIdle, isWaiting, lane, on, phaseAt}
+use Rattle.line.specs.Line.{flagFor, hasTurn, idleLane, isFlagged, isGathered, isIdle, isWaiting, lane, on, phaseAt}
 use Rattle.line.specs.Sound.{sound}
 use Rattle.line.proofs.Facts.{Facts, good-of}
-use Rattle.line.proofs.Phases.{idle-is, isUp, up-kinds, waiting-up}
+use Rattle.line.proofs.Phases.{idle-is, up-kinds, waiting-up}
 use Rattle.waitlist.specs.NextLane.{firstRaised, nextLane, raised}
 use Rattle.waitlist.specs.declared.Wakes.{Wakes}
 use Rattle.waitlist.proofs.Nearest.{Next, distance-round, next-found, next-none}
@@ -42,7 +42,7 @@ use Rattle.printout.specs.Print.{answerLines, answerWords, decimalIn, linebook,
 use Rattle.edges.specs.Edges.{Alone, EnteredInOrder, Holder, OtherEdges, Release, StarredEdges, Waits, answerTo, enter0, enter1, enter2, isSound}
 
 -- ---- phases and answers
-turn-of : (y : Phase) → isUp y ≡ true → isWaiting y ≡ false → hasTurn y ≡ true
+turn-of : (y : Phase) → isFlagged y ≡ true → isWaiting y ≡ false → hasTurn y ≡ true
 turn-of y u e = let k = up-kinds y in by-test (hasTurn y) (λ t. t) (λ f. let z = rw (u, e, f) at k in absurd (omega arith))
 
 taken-is : {s t : Place} {c d : ℕ} {a b : Wakes} → Answer.Region s c a ≡ Answer.Region t d b → b ≡ a
@@ -57,9 +57,9 @@ module _ (x : State) (A : Alone x) where
   facts = good-of (x .line) (length (x .book)) (A .shaped) (A .sound) .facts
 
   -- not all of one lane are gathered
-  none-gathered : any (on isGathered) (x .line .lane) ≡ false
+  none-gathered : somePass (on isGathered) (x .line .lane) ≡ false
   none-gathered =
-      by-test (any (on isGathered) (x .line .lane))
+      by-test (somePass (on isGathered) (x .line .lane))
       (λ t. let h = any-count (on isGathered) (x .line .lane) t in
       absurd (omega (arith, facts .gathering h .fewer, A .one)))
       (λ f. f)
@@ -81,8 +81,8 @@ module _ (x : State) (A : Alone x) where
       go : {r : Result} → Decided nextLane x (given (Event.Want i purpose)) r → r .answer ≡ Answer.Waits → ⊥
       go (refused n w) q = let z : _≡_ {A = ℕ} 0 1 = cc in omega arith
       go (accepted f) q =
-          let first : i ≡ 0 = omega (arith, leb-false (x .line .lanes) i (f 7), A .one) in
-          let idle = idle-is (phaseAt (x .line) i) (not-false (isIdle (phaseAt (x .line) i)) (rw (and-true (not (isIdle (phaseAt (x .line) i)))) at (f 12))) in
+          let first : i ≡ 0 = omega (arith, leb-false (x .line .lanes) i (f 8), A .one) in
+          let idle = idle-is (phaseAt (x .line) i) (not-false (isIdle (phaseAt (x .line) i)) (rw (and-true (not (isIdle (phaseAt (x .line) i)))) at (f 13))) in
           let holds = rw (others-down (rw first at idle) i) at q in
           let z : _≡_ {A = ℕ} 0 1 = cc in omega arith
 
@@ -111,7 +111,7 @@ module _ (x : State) (i : ℕ) (h : i < 64) (H : Holder x i) where
   own-down : raised flags i ≡ false
   own-down = ap (λ (n : ℕ). eqb n 1) (set-down (x .line .flag) i)
 
-  flag-of : (j : ℕ) → j ≢ i → raised flags j ≡ isUp (phaseAt (x .line) j)
+  flag-of : (j : ℕ) → j ≢ i → raised flags j ≡ isFlagged (phaseAt (x .line) j)
   flag-of j n = ap (λ (f : ℕ). eqb f 1) (getD-set-other (x .line .flag) i j 0 0 n) ∙ raised-up (x .line) (own .base) j
 
   has-turn : hasTurn (phaseAt (x .line) i) ≡ true

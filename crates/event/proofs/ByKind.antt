@@ -19,11 +19,11 @@ use Rattle.event.proofs.Numbers.{signed-of-unsigned, unsigned-of-signed
 use Rattle.event.proofs.Fields.{bytes-drop, field-below}
 
 -- ---- by kind
--- P of each of `count` numbers from k on, one after the other: `p ▹ q ▹ .. ▹ all`
+-- P of each of `count` numbers from k on, one after the other: `p ▹ q ▹ .. ▹ listed`
 infixr 67 _▹_
 
 pub data EachFrom (P : ℕ → Type 0) : ℕ → ℕ → Type 0 where
-  all : {k : ℕ} → EachFrom P k 0
+  listed : {k : ℕ} → EachFrom P k 0
   _▹_ : {k count : ℕ} → P k → EachFrom P (suc k) count → EachFrom P k (suc count)
 
 -- P of each kind of the table, from 01 on
@@ -31,7 +31,7 @@ abbrev pub EachKind : (ℕ → Type 0) → Type 0
 EachKind P = EachFrom P 1 (length kinds)
 
 each-at : (P : ℕ → Type 0) {k count : ℕ} (j : ℕ) → EachFrom P k count → k ≤ j → j < k + count → P j
-each-at P j all h l = absurd (omega arith)
+each-at P j listed h l = absurd (omega arith)
 each-at P {k} j (p ▹ more) h l = elim (ℕ-discrete k j) [ yes e ↦ rw e at p | no n ↦ each-at P j more (omega arith) (omega arith) ]
 
 -- what holds for each kind of the table holds for every listed kind
@@ -99,7 +99,7 @@ fields-counted Event.Unlisted = refl
 -- ---- from bytes to an event's fields
 pub kind-of-event : (kind : ℕ) (fields : List ℕ) → isListed kind ≡ true → kindOf (eventOf kind fields) ≡ kind
 kind-of-event kind fields k =
-    by-kind (λ (n : ℕ). kindOf (eventOf n fields) ≡ n) (refl ▹ refl ▹ refl ▹ refl ▹ refl ▹ refl ▹ refl ▹ refl ▹ refl ▹ refl ▹ refl ▹ refl ▹ all) kind k
+    by-kind (λ (n : ℕ). kindOf (eventOf n fields) ≡ n) (refl ▹ refl ▹ refl ▹ refl ▹ refl ▹ refl ▹ refl ▹ refl ▹ refl ▹ refl ▹ refl ▹ refl ▹ listed) kind k
 
 -- the fields of the event that bytes say are the fields in those bytes
 FieldsKept : List ℕ → ℕ → Type 0
@@ -116,5 +116,5 @@ pub fields-of-event : (kind : ℕ) (bytes : List ℕ) → AreBytes bytes → isL
 unfolding FieldsKept fieldsIn
 fields-of-event kind bytes h k =
     by-kind (FieldsKept bytes)
-    ((λ r. refl) ▹ (λ r. refl) ▹ (λ r. refl) ▹ (λ r. refl) ▹ (λ r. refl) ▹ (λ r. refl) ▹ (λ r. refl) ▹ (λ r. refl) ▹ (λ r. refl) ▹ (λ r. refl) ▹ (λ r. refl) ▹ seek-kept bytes h ▹ all)
+    ((λ r. refl) ▹ (λ r. refl) ▹ (λ r. refl) ▹ (λ r. refl) ▹ (λ r. refl) ▹ (λ r. refl) ▹ (λ r. refl) ▹ (λ r. refl) ▹ (λ r. refl) ▹ (λ r. refl) ▹ (λ r. refl) ▹ seek-kept bytes h ▹ listed)
     kind k

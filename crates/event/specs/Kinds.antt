@@ -13,9 +13,9 @@ use Rattle.event.specs.declared.Blocks.{Blocks}
 use Rattle.event.specs.declared.Event.{Event}
 
 -- ---- a field of a body
--- how it is shown: a number, a record, a signed offset, or a block's start, with the block's length that follows it
+-- how it is shown in words: a number, a record, a signed offset, or the start of a block with the length that follows it
 pub data Form : Type 0 where
-  plain inHex withSign asBlock : Form
+  plain inHex withSign blockStart blockLength : Form
 
 pub record Field : Type 0 where
   pub name : String
@@ -34,7 +34,7 @@ offset = record { name = "offset"; length = 4; form = withSign }
 
 -- "(start 2, length 2)", and four of them
 abbrev pub startAndLength : List Field
-startAndLength = record { name = "start"; length = 2; form = asBlock } ∷ number "length" 2 ∷ []
+startAndLength = record { name = "start"; length = 2; form = blockStart } ∷ record { name = "length"; length = 2; form = blockLength } ∷ []
 
 abbrev pub fourBlocks : List Field
 fourBlocks = startAndLength ++ startAndLength ++ startAndLength ++ startAndLength

@@ -1,10 +1,13 @@
 -- Sheets in words: a line an event, and the line that says what is wrong.
 use Prim.Native.Nat.{ℕ, _-_}
 use mathlib.Core.Bool.{cond}
-use mathlib.Core.List.{List, [], _∷_, _++_}
+use mathlib.Core.List.{List, [], _∷_, _++_, map}
 use lib.Dec.{eqb, ltb}
+use lib.ListN.{getD}
+use Rattle.view.specs.View.{block}
 use Rattle.view.specs.declared.Block.{Block}
-use Rattle.event.specs.BigEndian.{unsigned}
+use Rattle.event.specs.Kinds.{Field, Form, blockLength, blockStart, inHex, kindAt, plain, withSign}
+use Rattle.event.specs.Event.{blockList, fieldsOf, kindOf}
 use Rattle.event.specs.declared.Blocks.{Blocks}
 use Rattle.event.specs.declared.Event.{Event}
 use Rattle.number_text.specs.Stored.{Stored}
@@ -34,34 +37,25 @@ abbrev pub blockText : Block → List ℕ
 blockText b = ascii "(" ++ ((decimal (b .start) ++ ascii ",") ++ (ascii " " ++ (decimal (b .length) ++ ascii ")")))
 
 abbrev pub blockWords : Blocks → List (List ℕ)
-blockWords b =
-    blockText (b .b0)
-    ∷ blockText (b .b1)
-    ∷ blockText (b .b2)
-    ∷ blockText (b .b3)
-    ∷ blockText (b .b4)
-    ∷ blockText (b .b5)
-    ∷ blockText (b .b6)
-    ∷ blockText (b .b7)
-    ∷ []
+blockWords b = map blockText (blockList b)
 
--- the kind's word and the named fields, in the body's order
+-- ---- an event in words, by the table of kinds
+-- a field: its name and its number; a block stands without names
+abbrev pub fieldWords : Form → List ℕ → ℕ → List ℕ → List (List ℕ) → List (List ℕ)
+fieldWords plain name v later more = name ∷ decimal v ∷ more
+fieldWords inHex name v later more = name ∷ hexIn 16 v ∷ more
+fieldWords withSign name v later more = name ∷ signedText v ∷ more
+fieldWords blockStart name v later more = blockText (block v (getD later 0 0)) ∷ more
+fieldWords blockLength name v later more = more
+
+abbrev pub fieldsWords : List Field → List ℕ → List (List ℕ)
+fieldsWords [] vs = []
+fieldsWords (f ∷ fs) [] = []
+fieldsWords (f ∷ fs) (v ∷ vs) = fieldWords (f .form) (ascii (f .name)) v vs (fieldsWords fs vs)
+
+-- the kind's word and the fields, in the body's order
 unfoldable pub eventWords : Event → List (List ℕ)
-eventWords (Event.Open lanes capacity) = ascii "open lanes" ∷ decimal lanes ∷ ascii "capacity" ∷ decimal capacity ∷ []
-eventWords (Event.Want lane purpose) = ascii "want lane" ∷ decimal lane ∷ ascii "purpose" ∷ decimal purpose ∷ []
-eventWords (Event.Receive lane) = ascii "receive lane" ∷ decimal lane ∷ []
-eventWords (Event.Take lane count) = ascii "take lane" ∷ decimal lane ∷ ascii "count" ∷ decimal count ∷ []
-eventWords (Event.Write lane content) = ascii "write lane" ∷ decimal lane ∷ ascii "record" ∷ hexIn 16 content ∷ []
-eventWords (Event.Read lane) = ascii "read lane" ∷ decimal lane ∷ []
-eventWords (Event.Put lane place content) =
-    ascii "put lane" ∷ decimal lane ∷ ascii "place" ∷ decimal (place .0) ∷ ascii "record" ∷ hexIn 16 content ∷ []
-eventWords (Event.Look lane place) = ascii "look lane" ∷ decimal lane ∷ ascii "place" ∷ decimal (place .0) ∷ []
-eventWords (Event.Free lane) = ascii "free lane" ∷ decimal lane ∷ []
-eventWords (Event.Enter lane count) = ascii "enter lane" ∷ decimal lane ∷ ascii "count" ∷ decimal count ∷ []
-eventWords (Event.View displacement extent used blocks) =
-    ascii "view displacement" ∷ decimal displacement ∷ ascii "extent" ∷ decimal extent ∷ ascii "blocks" ∷ decimal used ∷ blockWords blocks
-eventWords (Event.Seek whence offset) = ascii "seek whence" ∷ decimal whence ∷ ascii "offset" ∷ signedText (unsigned offset) ∷ []
-eventWords Event.Unlisted = ascii "unlisted" ∷ []
+eventWords e = ascii (kindAt (kindOf e) .word) ∷ fieldsWords (kindAt (kindOf e) .fields) (fieldsOf e)
 
 -- the event's number from 0, then its words
 abbrev pub eventLine : ℕ → Event → List ℕ

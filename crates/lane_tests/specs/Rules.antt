@@ -2,7 +2,7 @@
 use mathlib.Core.Bool.{Bool}
 use mathlib.Core.List.{List}
 use lib.Dec.{eqb}
-use Rattle.lists.specs.Lists.{count}
+use Rattle.lists.specs.Lists.{countPass}
 use Rattle.line.specs.Line.{flagFor, hasTurn, isGathered, isIdle, isIdleOrGathered, on}
 use Rattle.line.specs.Sound.{gatheredTotal, regionOk, valueOk}
 use Rattle.line.specs.declared.Phase.{Phase}
@@ -23,8 +23,8 @@ isFlagged x = eqb 1 (flagFor x)
 abbrev pub tallyOf : List Lane → Tally
 tallyOf ls =
     record {
-      flagged = count (on isFlagged) ls;
-      turns = count (on hasTurn) ls;
-      gathered = count (on isGathered) ls;
+      flagged = countPass (on isFlagged) ls;
+      turns = countPass (on hasTurn) ls;
+      gathered = countPass (on isGathered) ls;
       total = gatheredTotal ls;
     }

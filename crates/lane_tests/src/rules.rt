@@ -2,7 +2,7 @@
 ghost use Prim.Native.Nat.{_+_};
 ghost use mathlib.Core.Path.{_≡_};
 ghost use lib.ListN.{drop};
-ghost use Rattle.lists.specs.Lists.{all};
+ghost use Rattle.lists.specs.Lists.{allPass};
 ghost use Rattle.line.specs.Line.{on, placeIn};
 ghost use Rattle.line.specs.Sound.{regionEnd, regionOk, valueOk};
 ghost use Rattle.lane_tests.specs.Rules.{ruleOf};
@@ -84,7 +84,7 @@ fn meets(rule: Rule, line: Line, x: Phase) -> bool
 
 // Whether every lane from an index on meets a rule.
 pub fn all_meet(rule: Rule, line: Line, start: usize) -> bool
-    ensures { λ r. ⌜ r ≡ all (on (ruleOf rule line)) (drop start (line .lane)) ⌝ }
+    ensures { λ r. ⌜ r ≡ allPass (on (ruleOf rule line)) (drop start (line .lane)) ⌝ }
 {
     let lane = line.lane;
     let mut i = start;

@@ -3,7 +3,7 @@ ghost use Prim.Native.Nat.{_≤_};
 ghost use mathlib.Core.Path.{_≡_};
 ghost use mathlib.Core.List.{map};
 ghost use lib.ListN.{drop};
-ghost use Rattle.lists.specs.Lists.{all, any, bit, pairwise, sameNumbers};
+ghost use Rattle.lists.specs.Lists.{allPass, somePass, bit, pairwise, sameNumbers};
 ghost use Rattle.line.specs.Line.{flagFor, isGathered, on};
 ghost use Rattle.line.specs.Sound.{apart, apartLanes};
 ghost use Rattle.lane_tests.specs.Rules.{tallyOf};
@@ -58,7 +58,7 @@ pub fn tally_of(lane: [Lane; MOST_LANES]) -> Tally
 
 // Whether a lane has entered an ordered call.
 pub fn any_gathered(lane: [Lane; MOST_LANES]) -> bool
-    ensures { λ r. ⌜ r ≡ any (on isGathered) lane ⌝ }
+    ensures { λ r. ⌜ r ≡ somePass (on isGathered) lane ⌝ }
 {
     let mut i: usize = 0;
     while i < MOST_LANES {
@@ -106,7 +106,7 @@ fn are_apart(x: Phase, y: Phase) -> bool
 
 // Whether a lane has no place in common with those from an index on.
 fn apart_from(x: Phase, lane: [Lane; MOST_LANES], start: usize) -> bool
-    ensures { λ r. ⌜ r ≡ all (on (apart x)) (drop start lane) ⌝ }
+    ensures { λ r. ⌜ r ≡ allPass (on (apart x)) (drop start lane) ⌝ }
 {
     if !phase_tests::is_busy(x) {
         return true;

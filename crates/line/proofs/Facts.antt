@@ -10,7 +10,7 @@ use lib.ListN.{drop, getD, length, List·getD-map}
 use lib.Seq.{getD-drop}
 use lib.Dec.{eqb, leb, ltb}
 use borrow.Author.Tests.{eq-eqb, eqb-true, le-leb, leb-true, lt-ltb, ltb-true, ne-eqb}
-use Rattle.lists.specs.Lists.{all, any, count, every, pairwise}
+use Rattle.lists.specs.Lists.{allPass, somePass, countPass, every, pairwise}
 use Rattle.lists.proofs.Tests.{and-both, and-left, and-right, by-test, every-nth, implies-from, implies-use}
 use Rattle.lists.proofs.Counts.{all-from, all-getD, all-none, any-count, any-none, count-any, count-map, count-same, count-split, is-same, pairwise-at, pairwise-from, same-is}
 use Rattle.view.specs.View.{fits, viewOk}
@@ -18,9 +18,9 @@ use Rattle.line.specs.declared.Phase.{Phase}
 use Rattle.line.specs.declared.Lane.{Lane}
 use Rattle.line.specs.declared.Line.{Line}
 use Rattle.limits.specs.Limits.{mostLanes, mostPointer}
-use Rattle.line.specs.Line.{flagFor, hasTurn, idleLane, isGathered, isIdle, isIdleOrGathered, isWaiting, on, phaseAt, Shaped}
+use Rattle.line.specs.Line.{Shaped, flagFor, hasTurn, idleLane, isFlagged, isGathered, isIdle, isIdleOrGathered, isWaiting, on, phaseAt}
 use Rattle.line.specs.Sound.{apart, apartLanes, busyOk, flagsOk, gatheredOk, gatheredTotal, numbersOk, openNumbers, pastOk, regionOk, sound, turnOk, valueOk}
-use Rattle.line.proofs.Phases.{apart-idle, apart-sym, idle-is, isUp, no-value, up-kinds, up-one}
+use Rattle.line.proofs.Phases.{apart-idle, apart-sym, idle-is, no-value, up-kinds, up-one}
 
 -- ---- the numbers of an open line
 pub record OpenNumbers (l : Line) (buffer : ℕ) : Type 0 where
@@ -75,25 +75,25 @@ pub record Base (l : Line) : Type 0 where
   pub blocks : length (l .view .block) ≡ 8
   pub lanes-fit : l .lanes ≤ mostLanes
   pub flags : l .flag ≡ map (on flagFor) (l .lane)
-  pub regions : all (on (regionOk l)) (l .lane) ≡ true
+  pub regions : allPass (on (regionOk l)) (l .lane) ≡ true
   pub disjoint : (i j : ℕ) → i ≢ j → apart (phaseAt l i) (phaseAt l j) ≡ true
   pub past : (j : ℕ) → l .lanes ≤ j → phaseAt l j ≡ Phase.Idle
 
 -- exactly one lane has the turn where a flag is up, and none else; its value is the pointer
 pub record Turn (l : Line) : Type 0 where
-  pub one : count (on hasTurn) (l .lane) ≡ min 1 (count (on isUp) (l .lane))
-  pub values : all (on (valueOk (l .pointer))) (l .lane) ≡ true
+  pub one : countPass (on hasTurn) (l .lane) ≡ min 1 (countPass (on isFlagged) (l .lane))
+  pub values : allPass (on (valueOk (l .pointer))) (l .lane) ≡ true
 
 -- where a lane is gathered
 pub record Gathering (l : Line) : Type 0 where
-  pub ready : all (on isIdleOrGathered) (l .lane) ≡ true
-  pub fewer : count (on isGathered) (l .lane) < l .lanes
+  pub ready : allPass (on isIdleOrGathered) (l .lane) ≡ true
+  pub fewer : countPass (on isGathered) (l .lane) < l .lanes
   pub room : fits (l .view) (l .capacity) (l .pointer) (gatheredTotal (l .lane)) ≡ true
 
 pub record Facts (l : Line) : Type 0 where
   pub base : Base l
   pub turn : Turn l
-  pub gathering : 0 < count (on isGathered) (l .lane) → Gathering l
+  pub gathering : 0 < countPass (on isGathered) (l .lane) → Gathering l
 
 pub record Good (l : Line) (buffer : ℕ) : Type 0 where
   pub numbers : numbersOk l buffer ≡ true
@@ -105,27 +105,27 @@ few-of l buffer e =
     elim (decLt 0 (l .lanes)) [ yes h ↦ when-open l buffer h e .lanes-fit | no h ↦ omega arith ]
 
 -- the flags that are 1 are those of the lanes that are up
-flags-up : (l : Line) → l .flag ≡ map (on flagFor) (l .lane) → count (eqb 1) (l .flag) ≡ count (on isUp) (l .lane)
+flags-up : (l : Line) → l .flag ≡ map (on flagFor) (l .lane) → countPass (eqb 1) (l .flag) ≡ countPass (on isFlagged) (l .lane)
 flags-up l f =
-    ap (count (eqb 1)) f ∙ count-map (on flagFor) (eqb 1) (l .lane)
-    ∙ count-same (λ (x : Lane). eqb 1 (flagFor (x .phase))) (on isUp) (λ x. up-one (x .phase)) (l .lane)
+    ap (countPass (eqb 1)) f ∙ count-map (on flagFor) (eqb 1) (l .lane)
+    ∙ count-same (λ (x : Lane). eqb 1 (flagFor (x .phase))) (on isFlagged) (λ x. up-one (x .phase)) (l .lane)
 
-pub up-split : (ls : List Lane) → count (on isUp) ls ≡ count (on hasTurn) ls + count (on isWaiting) ls
-up-split ls = count-split (on isUp) (on hasTurn) (on isWaiting) (λ x. up-kinds (x .phase)) ls
+pub up-split : (ls : List Lane) → countPass (on isFlagged) ls ≡ countPass (on hasTurn) ls + countPass (on isWaiting) ls
+up-split ls = count-split (on isFlagged) (on hasTurn) (on isWaiting) (λ x. up-kinds (x .phase)) ls
 
-no-turns : (l : Line) → count (on hasTurn) (l .lane) ≡ 0 → all (on (valueOk (l .pointer))) (l .lane) ≡ true
+no-turns : (l : Line) → countPass (on hasTurn) (l .lane) ≡ 0 → allPass (on (valueOk (l .pointer))) (l .lane) ≡ true
 no-turns l z = all-none (on hasTurn) (on (valueOk (l .pointer))) (λ x e. no-value (l .pointer) (x .phase) e) (l .lane) z
 
 turn-of : (l : Line) → l .flag ≡ map (on flagFor) (l .lane) → turnOk l ≡ true → Turn l
 turn-of l f e =
-    by-test (any (eqb 1) (l .flag))
-    (λ t. let r = implies-use (any (eqb 1) (l .flag)) _ e t in
-    let c = eqb-true (count (on hasTurn) (l .lane)) 1 (and-left _ (all (on (valueOk (l .pointer))) (l .lane)) r) in
+    by-test (somePass (eqb 1) (l .flag))
+    (λ t. let r = implies-use (somePass (eqb 1) (l .flag)) _ e t in
+    let c = eqb-true (countPass (on hasTurn) (l .lane)) 1 (and-left _ (allPass (on (valueOk (l .pointer))) (l .lane)) r) in
     let u = any-count (eqb 1) (l .flag) t in
-    record { one = omega (arith, flags-up l f); values = and-right (eqb (count (on hasTurn) (l .lane)) 1) _ r })
+    record { one = omega (arith, flags-up l f); values = and-right (eqb (countPass (on hasTurn) (l .lane)) 1) _ r })
     (λ n. let z = any-none (eqb 1) (l .flag) n in
     let s = up-split (l .lane) in
-    let none : count (on hasTurn) (l .lane) ≡ 0 = omega (arith, flags-up l f) in
+    let none : countPass (on hasTurn) (l .lane) ≡ 0 = omega (arith, flags-up l f) in
     record { one = omega (arith, flags-up l f); values = no-turns l none })
 
 past-of : (l : Line) → pastOk l ≡ true → (j : ℕ) → l .lanes ≤ j → phaseAt l j ≡ Phase.Idle
@@ -134,13 +134,13 @@ past-of l e j h =
     let g : getD (drop (l .lanes) (l .lane)) (j - l .lanes) idleLane ≡ getD (l .lane) j idleLane =
     getD-drop (l .lanes) (l .lane) (j - l .lanes) idleLane ∙ ap (λ (n : ℕ). getD (l .lane) n idleLane) k in
     idle-is (phaseAt l j)
-    (rw g at (all-getD (on isIdle) (drop (l .lanes) (l .lane)) (j - l .lanes) idleLane (and-left _ (all (eqb 0) (drop (l .lanes) (l .flag))) e) refl))
+    (rw g at (all-getD (on isIdle) (drop (l .lanes) (l .lane)) (j - l .lanes) idleLane (and-left _ (allPass (eqb 0) (drop (l .lanes) (l .flag))) e) refl))
 
-gathered-of : (l : Line) → gatheredOk l ≡ true → 0 < count (on isGathered) (l .lane) → Gathering l
+gathered-of : (l : Line) → gatheredOk l ≡ true → 0 < countPass (on isGathered) (l .lane) → Gathering l
 gathered-of l e h =
-    let bs = all (on isIdleOrGathered) (l .lane) ∷ ltb (count (on isGathered) (l .lane)) (l .lanes) ∷ fits (l .view) (l .capacity) (l .pointer) (gatheredTotal (l .lane)) ∷ [] in
-    let r : every bs ≡ true = implies-use (any (on isGathered) (l .lane)) (every bs) e (count-any (on isGathered) (l .lane) h) in
-    record { ready = every-nth bs 0 r; fewer = ltb-true (count (on isGathered) (l .lane)) (l .lanes) (every-nth bs 1 r); room = every-nth bs 2 r }
+    let bs = allPass (on isIdleOrGathered) (l .lane) ∷ ltb (countPass (on isGathered) (l .lane)) (l .lanes) ∷ fits (l .view) (l .capacity) (l .pointer) (gatheredTotal (l .lane)) ∷ [] in
+    let r : every bs ≡ true = implies-use (somePass (on isGathered) (l .lane)) (every bs) e (count-any (on isGathered) (l .lane) h) in
+    record { ready = every-nth bs 0 r; fewer = ltb-true (countPass (on isGathered) (l .lane)) (l .lanes) (every-nth bs 1 r); room = every-nth bs 2 r }
 
 pub good-of : (l : Line) (buffer : ℕ) → Shaped l → sound l buffer ≡ true → Good l buffer
 unfolding sound
@@ -158,8 +158,8 @@ good-of l buffer shape e =
                   blocks = shape .blocks-length;
                   lanes-fit = few-of l buffer (every-nth bs 0 e);
                   flags = f;
-                  regions = and-left (all (on (regionOk l)) (l .lane)) (pairwise apartLanes (l .lane)) b;
-                  disjoint = pairwise-at apartLanes idleLane (λ x y. apart-sym (x .phase) (y .phase)) (λ x. apart-idle (x .phase)) (l .lane) (and-right (all (on (regionOk l)) (l .lane)) (pairwise apartLanes (l .lane)) b);
+                  regions = and-left (allPass (on (regionOk l)) (l .lane)) (pairwise apartLanes (l .lane)) b;
+                  disjoint = pairwise-at apartLanes idleLane (λ x y. apart-sym (x .phase) (y .phase)) (λ x. apart-idle (x .phase)) (l .lane) (and-right (allPass (on (regionOk l)) (l .lane)) (pairwise apartLanes (l .lane)) b);
                   past = past-of l (every-nth bs 5 e);
                 };
             turn = turn-of l f (every-nth bs 2 e);
@@ -170,16 +170,16 @@ good-of l buffer shape e =
 -- ---- from the facts to the test
 turn-ok : (l : Line) → Facts l → turnOk l ≡ true
 turn-ok l F =
-    implies-from (any (eqb 1) (l .flag)) _
+    implies-from (somePass (eqb 1) (l .flag)) _
     (λ t. let u = any-count (eqb 1) (l .flag) t in
-    let c : count (on hasTurn) (l .lane) ≡ 1 = omega (arith, flags-up l (F .base .flags), F .turn .one) in
-    and-both (eqb (count (on hasTurn) (l .lane)) 1) _ (eq-eqb (count (on hasTurn) (l .lane)) 1 c) (F .turn .values))
+    let c : countPass (on hasTurn) (l .lane) ≡ 1 = omega (arith, flags-up l (F .base .flags), F .turn .one) in
+    and-both (eqb (countPass (on hasTurn) (l .lane)) 1) _ (eq-eqb (countPass (on hasTurn) (l .lane)) 1 c) (F .turn .values))
 
 gathered-ok : (l : Line) → Facts l → gatheredOk l ≡ true
 gathered-ok l F =
-    implies-from (any (on isGathered) (l .lane)) _
+    implies-from (somePass (on isGathered) (l .lane)) _
     (λ t. let r = F .gathering (any-count (on isGathered) (l .lane) t) in
-    rw (r .ready, lt-ltb (count (on isGathered) (l .lane)) (l .lanes) (r .fewer), r .room))
+    rw (r .ready, lt-ltb (countPass (on isGathered) (l .lane)) (l .lanes) (r .fewer), r .room))
 
 flag-past : (l : Line) → Facts l → (j : ℕ) → l .lanes ≤ j → getD (l .flag) j 0 ≡ 0
 flag-past l F j h = rw (F .base .flags) (List·getD-map (on flagFor) (l .lane) j idleLane ∙ rw (F .base .past j h))

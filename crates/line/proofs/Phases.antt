@@ -9,51 +9,32 @@ use Rattle.lists.proofs.Tests.{clash}
 use Rattle.view.specs.declared.Place.{Place}
 use Rattle.line.specs.declared.Phase.{Phase}
 use Rattle.line.specs.declared.Line.{Line}
-use Rattle.line.specs.Line.{byPhase, flagFor, hasTurn, isBusy, isGathered, isHolding, isIdle, isIdleOrGathered, isReading, isWaiting, isWoken, isWriting, placeIn, purposeIn, leftIn}
+use Rattle.line.specs.Line.{flagFor, hasTurn, isBusy, isFlagged, isGathered, isHolding, isIdle, isIdleOrGathered, isReading, isWaiting, isWoken, isWriting, placeIn, purposeIn, leftIn}
 use Rattle.line.specs.Sound.{apart, regionEnd, regionOk, valueOk}
 
--- the flag of a lane in this phase is up
-abbrev pub isUp : Phase → Bool
-isUp x = byPhase false true true true false false false x
+-- a test as a flag, and back
+bit-one : (b : Bool) → eqb (bit b) 1 ≡ b
+bit-one true = refl
+bit-one false = refl
 
-pub up-one : (x : Phase) → eqb 1 (flagFor x) ≡ isUp x
-up-one Phase.Idle = refl
-up-one (Phase.Waiting p) = refl
-up-one (Phase.Woken p v) = refl
-up-one (Phase.Holding p v) = refl
-up-one (Phase.BusyWriting n k) = refl
-up-one (Phase.BusyReading n k) = refl
-up-one (Phase.Gathered n) = refl
+one-bit : (b : Bool) → eqb 1 (bit b) ≡ b
+one-bit true = refl
+one-bit false = refl
 
-pub one-up : (x : Phase) → eqb (flagFor x) 1 ≡ isUp x
-one-up Phase.Idle = refl
-one-up (Phase.Waiting p) = refl
-one-up (Phase.Woken p v) = refl
-one-up (Phase.Holding p v) = refl
-one-up (Phase.BusyWriting n k) = refl
-one-up (Phase.BusyReading n k) = refl
-one-up (Phase.Gathered n) = refl
+pub up-one : (x : Phase) → eqb 1 (flagFor x) ≡ isFlagged x
+up-one x = one-bit (isFlagged x)
 
-pub waiting-up : (x : Phase) → isWaiting x ≡ true → isUp x ≡ true
-waiting-up Phase.Idle e = clash (sym e)
-waiting-up (Phase.Waiting p) e = refl
-waiting-up (Phase.Woken p v) e = clash (sym e)
-waiting-up (Phase.Holding p v) e = clash (sym e)
-waiting-up (Phase.BusyWriting n k) e = clash (sym e)
-waiting-up (Phase.BusyReading n k) e = clash (sym e)
-waiting-up (Phase.Gathered n) e = clash (sym e)
+pub one-up : (x : Phase) → eqb (flagFor x) 1 ≡ isFlagged x
+one-up x = bit-one (isFlagged x)
 
-pub flag-down : (x : Phase) → isUp x ≡ false → flagFor x ≡ 0
-flag-down Phase.Idle e = refl
-flag-down (Phase.Waiting p) e = clash e
-flag-down (Phase.Woken p v) e = clash e
-flag-down (Phase.Holding p v) e = clash e
-flag-down (Phase.BusyWriting n k) e = refl
-flag-down (Phase.BusyReading n k) e = refl
-flag-down (Phase.Gathered n) e = refl
+pub waiting-up : (x : Phase) → isWaiting x ≡ true → isFlagged x ≡ true
+waiting-up x e = rw e
+
+pub flag-down : (x : Phase) → isFlagged x ≡ false → flagFor x ≡ 0
+flag-down x e = rw e
 
 -- a phase is at most one of these
-pub phase-kinds : (x : Phase) → bit (isIdle x) + bit (isGathered x) + bit (isUp x) + bit (isBusy x) ≤ 1
+pub phase-kinds : (x : Phase) → bit (isIdle x) + bit (isGathered x) + bit (isFlagged x) + bit (isBusy x) ≤ 1
 phase-kinds Phase.Idle = omega arith
 phase-kinds (Phase.Waiting p) = omega arith
 phase-kinds (Phase.Woken p v) = omega arith
@@ -62,7 +43,7 @@ phase-kinds (Phase.BusyWriting n k) = omega arith
 phase-kinds (Phase.BusyReading n k) = omega arith
 phase-kinds (Phase.Gathered n) = omega arith
 
-pub up-kinds : (x : Phase) → bit (isUp x) ≡ bit (hasTurn x) + bit (isWaiting x)
+pub up-kinds : (x : Phase) → bit (isFlagged x) ≡ bit (hasTurn x) + bit (isWaiting x)
 up-kinds Phase.Idle = omega arith
 up-kinds (Phase.Waiting p) = omega arith
 up-kinds (Phase.Woken p v) = omega arith
@@ -90,7 +71,7 @@ idle-is (Phase.BusyWriting n k) e = clash (sym e)
 idle-is (Phase.BusyReading n k) e = clash (sym e)
 idle-is (Phase.Gathered n) e = clash (sym e)
 
-pub waiting-is : (x : Phase) → isUp x ≡ true → hasTurn x ≡ false → x ≡ Phase.Waiting (purposeIn x)
+pub waiting-is : (x : Phase) → isFlagged x ≡ true → hasTurn x ≡ false → x ≡ Phase.Waiting (purposeIn x)
 waiting-is Phase.Idle u a = clash (sym u)
 waiting-is (Phase.Waiting p) u a = refl
 waiting-is (Phase.Woken p v) u a = clash a

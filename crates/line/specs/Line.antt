@@ -1,9 +1,11 @@
 -- Document 01, "The line": lanes and their phases, and the values that a line starts with.
 use Prim.Native.Nat.{ℕ}
-use mathlib.Core.Bool.{Bool, true, false, not, _&&_}
+use mathlib.Core.Bool.{Bool, true, false, not, _&&_, _||_}
+use lib.Dec.{eqb}
 use lib.ListN.{getD, length, replicate}
 use mathlib.Core.Path.{_≡_}
 use Rattle.limits.specs.Limits.{mostBlocks, mostLanes}
+use Rattle.lists.specs.Lists.{bit}
 use Rattle.view.specs.View.{place, plainView}
 use Rattle.view.specs.declared.Place.{Place}
 use Rattle.line.specs.declared.Purpose.{Purpose}
@@ -28,50 +30,54 @@ isWholeBook Purpose.SharedRead = false
 isWholeBook Purpose.WholeBook = true
 
 -- ---- phases
--- a value for each phase, in the order idle, waiting, woken, holding, busy writing, busy reading, gathered
-abbrev pub byPhase : {A : Type 0} → A → A → A → A → A → A → A → Phase → A
-byPhase a b c d e f g Phase.Idle = a
-byPhase a b c d e f g (Phase.Waiting p) = b
-byPhase a b c d e f g (Phase.Woken p v) = c
-byPhase a b c d e f g (Phase.Holding p v) = d
-byPhase a b c d e f g (Phase.BusyWriting left next) = e
-byPhase a b c d e f g (Phase.BusyReading left next) = f
-byPhase a b c d e f g (Phase.Gathered n) = g
+-- a phase's number, in the order of the enum: what tells it from the others
+abbrev pub phaseNumber : Phase → ℕ
+phaseNumber Phase.Idle = 0
+phaseNumber (Phase.Waiting p) = 1
+phaseNumber (Phase.Woken p v) = 2
+phaseNumber (Phase.Holding p v) = 3
+phaseNumber (Phase.BusyWriting left next) = 4
+phaseNumber (Phase.BusyReading left next) = 5
+phaseNumber (Phase.Gathered n) = 6
 
 abbrev pub isIdle : Phase → Bool
-isIdle x = byPhase true false false false false false false x
+isIdle x = eqb (phaseNumber x) 0
 
 abbrev pub isWaiting : Phase → Bool
-isWaiting x = byPhase false true false false false false false x
+isWaiting x = eqb (phaseNumber x) 1
 
 abbrev pub isWoken : Phase → Bool
-isWoken x = byPhase false false true false false false false x
+isWoken x = eqb (phaseNumber x) 2
 
 abbrev pub isHolding : Phase → Bool
-isHolding x = byPhase false false false true false false false x
+isHolding x = eqb (phaseNumber x) 3
+
+abbrev pub isWriting : Phase → Bool
+isWriting x = eqb (phaseNumber x) 4
+
+abbrev pub isReading : Phase → Bool
+isReading x = eqb (phaseNumber x) 5
+
+abbrev pub isGathered : Phase → Bool
+isGathered x = eqb (phaseNumber x) 6
 
 -- woken or holding: the lane whose turn it is
 abbrev pub hasTurn : Phase → Bool
-hasTurn x = byPhase false false true true false false false x
+hasTurn x = isWoken x || isHolding x
 
-abbrev pub isWriting : Phase → Bool
-isWriting x = byPhase false false false false true false false x
-
-abbrev pub isReading : Phase → Bool
-isReading x = byPhase false false false false false true false x
-
+-- "busy (writing or reading a region ..)"
 abbrev pub isBusy : Phase → Bool
-isBusy x = byPhase false false false false true true false x
-
-abbrev pub isGathered : Phase → Bool
-isGathered x = byPhase false false false false false false true x
+isBusy x = isWriting x || isReading x
 
 abbrev pub isIdleOrGathered : Phase → Bool
-isIdleOrGathered x = byPhase true false false false false false true x
+isIdleOrGathered x = isIdle x || isGathered x
 
 -- "A flag is 1 for waiting, woken and holding lanes and no others"
+abbrev pub isFlagged : Phase → Bool
+isFlagged x = isWaiting x || hasTurn x
+
 abbrev pub flagFor : Phase → ℕ
-flagFor x = byPhase 0 1 1 1 0 0 0 x
+flagFor x = bit (isFlagged x)
 
 -- the purpose of a waiting, woken or holding lane; where another lane's is read, refusal 13 applies and is lower than what it decides
 abbrev pub purposeIn : Phase → Purpose

@@ -4,7 +4,7 @@ use mathlib.Core.Bool.{Bool, cond, _&&_, _||_}
 use mathlib.Core.List.{List, [], _∷_, map}
 use lib.ListN.{drop}
 use lib.Dec.{leb, ltb, eqb}
-use Rattle.lists.specs.Lists.{all, any, count, every, implies, pairwise, sameNumbers, sumOf}
+use Rattle.lists.specs.Lists.{allPass, somePass, countPass, every, implies, pairwise, sameNumbers, sumOf}
 use Rattle.view.specs.View.{fits, isPlain, viewOk}
 use Rattle.view.specs.declared.Place.{Place}
 use Rattle.line.specs.declared.Phase.{Phase}
@@ -44,7 +44,7 @@ valueOk pointer x = implies (hasTurn x) (eqb (placeIn x .0) (pointer .0))
 
 -- "If a flag is 1, exactly one lane is woken or holding, and its value is the pointer"
 abbrev pub turnOk : Line → Bool
-turnOk l = implies (any (eqb 1) (l .flag)) (eqb (count (on hasTurn) (l .lane)) 1 && all (on (valueOk (l .pointer))) (l .lane))
+turnOk l = implies (somePass (eqb 1) (l .flag)) (eqb (countPass (on hasTurn) (l .lane)) 1 && allPass (on (valueOk (l .pointer))) (l .lane))
 
 -- the counts of the gathered lanes, added up
 abbrev pub gatheredTotal : List Lane → ℕ
@@ -53,10 +53,10 @@ gatheredTotal ls = sumOf (on countIn) ls
 -- "If a lane is gathered, all are idle or gathered, not all gathered, and the gathered total fits"
 abbrev pub gatheredOk : Line → Bool
 gatheredOk l =
-    implies (any (on isGathered) (l .lane))
+    implies (somePass (on isGathered) (l .lane))
     (every
-    (all (on isIdleOrGathered) (l .lane)
-    ∷ ltb (count (on isGathered) (l .lane)) (l .lanes)
+    (allPass (on isIdleOrGathered) (l .lane)
+    ∷ ltb (countPass (on isGathered) (l .lane)) (l .lanes)
     ∷ fits (l .view) (l .capacity) (l .pointer) (gatheredTotal (l .lane))
     ∷ []))
 
@@ -78,11 +78,11 @@ abbrev pub apartLanes : Lane → Lane → Bool
 apartLanes a b = apart (a .phase) (b .phase)
 
 abbrev pub busyOk : Line → Bool
-busyOk l = all (on (regionOk l)) (l .lane) && pairwise apartLanes (l .lane)
+busyOk l = allPass (on (regionOk l)) (l .lane) && pairwise apartLanes (l .lane)
 
 -- "Entries past N are idle with flag 0"
 abbrev pub pastOk : Line → Bool
-pastOk l = all (on isIdle) (drop (l .lanes) (l .lane)) && all (eqb 0) (drop (l .lanes) (l .flag))
+pastOk l = allPass (on isIdle) (drop (l .lanes) (l .lane)) && allPass (eqb 0) (drop (l .lanes) (l .flag))
 
 -- a sound line, with a lent buffer of this length
 unfoldable pub sound : Line → ℕ → Bool

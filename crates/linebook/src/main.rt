@@ -1,25 +1,30 @@
 // linebook: a sheet from standard input, its text to standard output; what it prints is decided by `linebook_text::print_sheet`.
-ghost use Prim.Native.Nat.{_≤_};
+ghost use Prim.Native.Nat.{_+_, _≤_};
 ghost use mathlib.Core.Path.{_≡_};
 ghost use lib.ListN.{length};
+ghost use Rattle.limits.specs.Limits.{mostSheet};
+ghost use Rattle.run_text.specs.RunText.{mostText};
+use answer_text::MOST_LINE;
 use answer_text::Printed;
+use limits::MOST_SHEET;
 use linebook_text::print_sheet;
+use run_text::MOST_LAST;
 
 // One byte more than the longest sheet is read, to tell a longer one.
-const MOST_READ: usize = 65537;
+const MOST_READ: usize = MOST_SHEET + 1;
 
-// The longest text of a sheet: 28 bytes for each of its 65,536 bytes, and two lines more.
-const MOST_TEXT: usize = 1835120;
+// The longest text of a sheet: a line for each of its bytes, and two lines more.
+const MOST_TEXT: usize = MOST_SHEET * MOST_LINE + MOST_LAST;
 
 // The buffers, as functions of which only the lengths are known where they are used.
 fn sheet_buffer() -> [u8; MOST_READ]
-    ensures { λ r. ⌜ 65537 ≡ length r ⌝ }
+    ensures { λ r. ⌜ mostSheet + 1 ≡ length r ⌝ }
 {
     [0; MOST_READ]
 }
 
 fn text_buffer() -> [u8; MOST_TEXT]
-    ensures { λ r. ⌜ 1835120 ≡ length r ⌝ }
+    ensures { λ r. ⌜ mostText mostSheet ≡ length r ⌝ }
 {
     [0; MOST_TEXT]
 }

@@ -9,7 +9,8 @@ use lib.ListN.{length}
 use lib.Seq.{sets}
 use borrow.Author.Tests.{le-leb, le-ltb, lt-leb, ltb-false, ltb-true}
 use Rattle.lists.proofs.Tests.{by-test}
-use Rattle.printout.specs.Print.{freshState, linebook, mostSheet}
+use Rattle.limits.specs.Limits.{mostSheet}
+use Rattle.printout.specs.Print.{freshState, linebook}
 use Rattle.answer_text.specs.declared.Printed.{Printed}
 use Rattle.run_text.specs.RunText.{mostText}
 use Rattle.linebook_text.specs.Whole.{sheetPrinted, textOf}

@@ -6,7 +6,7 @@ use mathlib.Core.List.{List, [], _∷_}
 use native.Mathlib.Nat.{not-suc-le-zero, le-of-suc-le-suc}
 use lib.ListN.{drop, getD, length}
 use borrow.Author.Tests.{eq-eqb, ne-eqb}
-use Rattle.lists.specs.Lists.{all, any, bit, count, pairwise, sameNumbers, sumOf}
+use Rattle.lists.specs.Lists.{allPass, somePass, bit, countPass, pairwise, sameNumbers, sumOf}
 use Rattle.lists.proofs.Parts.{drop-more}
 
 pub drop-end : {A : Type 0} (l : List A) (i : ℕ) → length l ≤ i → drop i l ≡ []
@@ -16,28 +16,28 @@ drop-end (x ∷ xs) zero h = absurd (not-suc-le-zero h)
 drop-end (x ∷ xs) (suc i) h = drop-end xs i (le-of-suc-le-suc h)
 
 module _ {A : Type 0} (p : A → Bool) (l : List A) (i : ℕ) (d : A) where
-  pub all-end : length l ≤ i → all p (drop i l) ≡ true
+  pub all-end : length l ≤ i → allPass p (drop i l) ≡ true
   all-end h = rw (drop-end l i h)
 
-  pub all-stop : i < length l → p (getD l i d) ≡ false → all p (drop i l) ≡ false
+  pub all-stop : i < length l → p (getD l i d) ≡ false → allPass p (drop i l) ≡ false
   all-stop h e = rw (drop-more l i d h, e)
 
-  pub all-more : i < length l → p (getD l i d) ≡ true → all p (drop i l) ≡ all p (drop (i + 1) l)
+  pub all-more : i < length l → p (getD l i d) ≡ true → allPass p (drop i l) ≡ allPass p (drop (i + 1) l)
   all-more h e = rw (drop-more l i d h, e)
 
-  pub any-end : length l ≤ i → any p (drop i l) ≡ false
+  pub any-end : length l ≤ i → somePass p (drop i l) ≡ false
   any-end h = rw (drop-end l i h)
 
-  pub any-here : i < length l → p (getD l i d) ≡ true → any p (drop i l) ≡ true
+  pub any-here : i < length l → p (getD l i d) ≡ true → somePass p (drop i l) ≡ true
   any-here h e = rw (drop-more l i d h, e)
 
-  pub any-more : i < length l → p (getD l i d) ≡ false → any p (drop i l) ≡ any p (drop (i + 1) l)
+  pub any-more : i < length l → p (getD l i d) ≡ false → somePass p (drop i l) ≡ somePass p (drop (i + 1) l)
   any-more h e = rw (drop-more l i d h, e)
 
-  pub count-end : length l ≤ i → count p (drop i l) ≡ 0
+  pub count-end : length l ≤ i → countPass p (drop i l) ≡ 0
   count-end h = rw (drop-end l i h)
 
-  pub count-more : i < length l → count p (drop i l) ≡ bit (p (getD l i d)) + count p (drop (i + 1) l)
+  pub count-more : i < length l → countPass p (drop i l) ≡ bit (p (getD l i d)) + countPass p (drop (i + 1) l)
   count-more h = rw (drop-more l i d h)
 
 module _ {A : Type 0} (f : A → ℕ) (l : List A) (i : ℕ) (d : A) where
@@ -51,10 +51,10 @@ module _ {A : Type 0} (r : A → A → Bool) (l : List A) (i : ℕ) (d : A) wher
   pub pairwise-end : length l ≤ i → pairwise r (drop i l) ≡ true
   pairwise-end h = rw (drop-end l i h)
 
-  pub pairwise-stop : i < length l → all (r (getD l i d)) (drop (i + 1) l) ≡ false → pairwise r (drop i l) ≡ false
+  pub pairwise-stop : i < length l → allPass (r (getD l i d)) (drop (i + 1) l) ≡ false → pairwise r (drop i l) ≡ false
   pairwise-stop h e = rw (drop-more l i d h, e)
 
-  pub pairwise-more : i < length l → all (r (getD l i d)) (drop (i + 1) l) ≡ true → pairwise r (drop i l) ≡ pairwise r (drop (i + 1) l)
+  pub pairwise-more : i < length l → allPass (r (getD l i d)) (drop (i + 1) l) ≡ true → pairwise r (drop i l) ≡ pairwise r (drop (i + 1) l)
   pairwise-more h e = rw (drop-more l i d h, e)
 
 module _ (a b : List ℕ) (i d e : ℕ) where

@@ -6,7 +6,7 @@ use mathlib.Core.List.{List}
 use native.Mathlib.Omega.{arith}
 use lib.ListN.{length}
 use lib.Dec.{eqb}
-use Rattle.lists.specs.Lists.{all, count}
+use Rattle.lists.specs.Lists.{allPass, countPass}
 use Rattle.lists.proofs.Tests.{by-test}
 use Rattle.view.specs.View.{fits}
 use Rattle.view.proofs.Laws.{fits-low}
@@ -37,10 +37,10 @@ module _ (l : Line) (book : List ℕ) (shape : Shaped l) (ok : sound l (length b
     pub index-in : i < 64
     index-in = let G = good-of l (length book) shape ok in omega (arith, G .facts .base .lanes-fit)
 
-    pub not-ready : (o : Outcome) → all (on isIdleOrGathered) (l .lane) ≡ false → o ≡ refusedOutcome l 11 → Meets (callEvent (stateOf l book) (Event.Enter i c)) o book
+    pub not-ready : (o : Outcome) → allPass (on isIdleOrGathered) (l .lane) ≡ false → o ≡ refusedOutcome l 11 → Meets (callEvent (stateOf l book) (Event.Enter i c)) o book
     not-ready o r e = meets-refused l book 11 (enter-chain nextLane (stateOf l book) i c ∙ at-lane l book ok i _ h ∙ fails l book 11 _ r) e
 
-    module _ (r : all (on isIdleOrGathered) (l .lane) ≡ true) where
+    module _ (r : allPass (on isIdleOrGathered) (l .lane) ≡ true) where
       pub not-idle : (o : Outcome) → isIdle (phaseAt l i) ≡ false → o ≡ refusedOutcome l 13 → Meets (callEvent (stateOf l book) (Event.Enter i c)) o book
       not-idle o d e =
           meets-refused l book 13 (enter-chain nextLane (stateOf l book) i c ∙ at-lane l book ok i _ h ∙ passes l book 11 _ r ∙ fails l book 13 _ d) e
@@ -60,10 +60,10 @@ module _ (l : Line) (book : List ℕ) (shape : Shaped l) (ok : sound l (length b
               let n = when-open l (length book) (omega arith) (G .numbers) in
               fits-low (l .capacity) (l .view) (n .view) (shape .blocks-length) (l .pointer .0) (gatheredTotal (entered l i c)) (n .reach) (n .most) f
 
-          pub enters : (o : Outcome) → o ≡ settled l (entered l i c) (count (on isGathered) (entered l i c)) (gatheredTotal (entered l i c))
+          pub enters : (o : Outcome) → o ≡ settled l (entered l i c) (countPass (on isGathered) (entered l i c)) (gatheredTotal (entered l i c))
               → Meets (callEvent (stateOf l book) (Event.Enter i c)) o book
           enters o e =
               meets-as (enter-chain nextLane (stateOf l book) i c ∙ at-lane l book ok i _ h ∙ passes l book 11 _ r ∙ passes l book 13 _ d ∙ passes l book 16 _ f)
-              (by-test (eqb (count (on isGathered) (entered l i c)) (l .lanes))
+              (by-test (eqb (countPass (on isGathered) (entered l i c)) (l .lanes))
               (λ t. rw (e, t) (record { answer = refl; line = refl; book = refl }))
               (λ t. rw (e, t) (record { answer = refl; line = refl; book = refl })))

@@ -1,22 +1,23 @@
-// Tests and numbers of a lane's phase, each equal to its definition. Each match lists every phase, so that a new one is looked at in each.
+// Tests and numbers of a lane's phase, each equal to its definition.
+ghost use mathlib.Core.Bool.{_||_};
 ghost use mathlib.Core.Path.{_≡_};
-ghost use Rattle.line.specs.Line.{countIn, flagFor, hasTurn, holdsWhole, isBusy, isGathered, isIdle, isIdleOrGathered, isWholeBook, isWriting, leftIn, placeIn};
+ghost use Rattle.line.specs.Line.{countIn, flagFor, hasTurn, holdsWhole, isBusy, isGathered, isIdle, isIdleOrGathered, isWholeBook, isWriting, leftIn, phaseNumber, placeIn};
 use line::Phase;
 use line::Purpose;
 use view::Place;
 
-// The flag that goes with a phase.
-pub fn flag_for(x: Phase) -> u8
-    ensures { λ r. ⌜ r ≡ flagFor x ⌝ }
+// What tells a phase from the others: its number, in the order of the enum. Each match here lists every phase, so that a new one is looked at.
+fn number(x: Phase) -> u8
+    ensures { λ r. ⌜ r ≡ phaseNumber x ⌝ }
 {
     match x {
         Phase::Idle => 0,
         Phase::Waiting(_) => 1,
-        Phase::Woken(_, _) => 1,
-        Phase::Holding(_, _) => 1,
-        Phase::BusyWriting { left: _, next: _ } => 0,
-        Phase::BusyReading { left: _, next: _ } => 0,
-        Phase::Gathered(_) => 0,
+        Phase::Woken(_, _) => 2,
+        Phase::Holding(_, _) => 3,
+        Phase::BusyWriting { left: _, next: _ } => 4,
+        Phase::BusyReading { left: _, next: _ } => 5,
+        Phase::Gathered(_) => 6,
     }
 }
 
@@ -24,75 +25,62 @@ pub fn flag_for(x: Phase) -> u8
 pub fn is_idle(x: Phase) -> bool
     ensures { λ r. ⌜ r ≡ isIdle x ⌝ }
 {
-    match x {
-        Phase::Idle => true,
-        Phase::Waiting(_) => false,
-        Phase::Woken(_, _) => false,
-        Phase::Holding(_, _) => false,
-        Phase::BusyWriting { left: _, next: _ } => false,
-        Phase::BusyReading { left: _, next: _ } => false,
-        Phase::Gathered(_) => false,
-    }
-}
-
-// Whether the lane is idle or gathered.
-pub fn is_idle_or_gathered(x: Phase) -> bool
-    ensures { λ r. ⌜ r ≡ isIdleOrGathered x ⌝ }
-{
-    match x {
-        Phase::Idle => true,
-        Phase::Waiting(_) => false,
-        Phase::Woken(_, _) => false,
-        Phase::Holding(_, _) => false,
-        Phase::BusyWriting { left: _, next: _ } => false,
-        Phase::BusyReading { left: _, next: _ } => false,
-        Phase::Gathered(_) => true,
-    }
-}
-
-// Whether the lane is woken or holding.
-pub fn has_turn(x: Phase) -> bool
-    ensures { λ r. ⌜ r ≡ hasTurn x ⌝ }
-{
-    match x {
-        Phase::Idle => false,
-        Phase::Waiting(_) => false,
-        Phase::Woken(_, _) => true,
-        Phase::Holding(_, _) => true,
-        Phase::BusyWriting { left: _, next: _ } => false,
-        Phase::BusyReading { left: _, next: _ } => false,
-        Phase::Gathered(_) => false,
-    }
-}
-
-// Whether the lane is writing or reading a region.
-pub fn is_busy(x: Phase) -> bool
-    ensures { λ r. ⌜ r ≡ isBusy x ⌝ }
-{
-    match x {
-        Phase::Idle => false,
-        Phase::Waiting(_) => false,
-        Phase::Woken(_, _) => false,
-        Phase::Holding(_, _) => false,
-        Phase::BusyWriting { left: _, next: _ } => true,
-        Phase::BusyReading { left: _, next: _ } => true,
-        Phase::Gathered(_) => false,
-    }
+    number(x) == 0
 }
 
 // Whether the lane is writing a region.
 pub fn is_writing(x: Phase) -> bool
     ensures { λ r. ⌜ r ≡ isWriting x ⌝ }
 {
-    match x {
-        Phase::Idle => false,
-        Phase::Waiting(_) => false,
-        Phase::Woken(_, _) => false,
-        Phase::Holding(_, _) => false,
-        Phase::BusyWriting { left: _, next: _ } => true,
-        Phase::BusyReading { left: _, next: _ } => false,
-        Phase::Gathered(_) => false,
+    number(x) == 4
+}
+
+// Whether the lane has entered an ordered call.
+pub fn is_gathered(x: Phase) -> bool
+    ensures { λ r. ⌜ r ≡ isGathered x ⌝ }
+{
+    number(x) == 6
+}
+
+// Whether one of two holds.
+fn either(a: bool, b: bool) -> bool
+    ensures { λ r. ⌜ r ≡ a || b ⌝ }
+{
+    if a {
+        return true;
     }
+    b
+}
+
+// Whether the lane is idle or gathered.
+pub fn is_idle_or_gathered(x: Phase) -> bool
+    ensures { λ r. ⌜ r ≡ isIdleOrGathered x ⌝ }
+{
+    either(is_idle(x), is_gathered(x))
+}
+
+// Whether the lane is woken or holding.
+pub fn has_turn(x: Phase) -> bool
+    ensures { λ r. ⌜ r ≡ hasTurn x ⌝ }
+{
+    either(number(x) == 2, number(x) == 3)
+}
+
+// Whether the lane is writing or reading a region.
+pub fn is_busy(x: Phase) -> bool
+    ensures { λ r. ⌜ r ≡ isBusy x ⌝ }
+{
+    either(is_writing(x), number(x) == 5)
+}
+
+// The flag that goes with a phase.
+pub fn flag_for(x: Phase) -> u8
+    ensures { λ r. ⌜ r ≡ flagFor x ⌝ }
+{
+    if either(number(x) == 1, has_turn(x)) {
+        return 1;
+    }
+    0
 }
 
 fn is_whole_book(purpose: Purpose) -> bool
@@ -117,21 +105,6 @@ pub fn holds_whole(x: Phase) -> bool
         Phase::BusyWriting { left: _, next: _ } => false,
         Phase::BusyReading { left: _, next: _ } => false,
         Phase::Gathered(_) => false,
-    }
-}
-
-// Whether the lane has entered an ordered call.
-pub fn is_gathered(x: Phase) -> bool
-    ensures { λ r. ⌜ r ≡ isGathered x ⌝ }
-{
-    match x {
-        Phase::Idle => false,
-        Phase::Waiting(_) => false,
-        Phase::Woken(_, _) => false,
-        Phase::Holding(_, _) => false,
-        Phase::BusyWriting { left: _, next: _ } => false,
-        Phase::BusyReading { left: _, next: _ } => false,
-        Phase::Gathered(_) => true,
     }
 }
 

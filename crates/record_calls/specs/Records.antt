@@ -10,7 +10,7 @@ use Rattle.view.specs.View.{fits, positionOf, recordEnd}
 use Rattle.view.specs.declared.Place.{Place}
 use Rattle.view.specs.declared.View.{View}
 use Rattle.line.specs.declared.Phase.{Phase}
-use Rattle.line.specs.Line.{byPhase, holdsWhole, isWriting, placeIn}
+use Rattle.line.specs.Line.{holdsWhole, isReading, isWriting, placeIn}
 use Rattle.waitlist.specs.declared.Wakes.{Wakes}
 use Rattle.event.specs.BigEndian.{bigEndian, numberOf}
 use Rattle.steps.specs.declared.Answer.{Answer}
@@ -26,8 +26,7 @@ recordPut s v k y =
 
 -- 13 to a lane that is no busy writer
 abbrev pub writtenBy : Seen → View → Phase → Change
-writtenBy s v x =
-    byPhase (refusedChange s 13) (refusedChange s 13) (refusedChange s 13) (refusedChange s 13) (recordPut s v (placeIn x) (oneLess x)) (refusedChange s 13) (refusedChange s 13) x
+writtenBy s v x = cond (isWriting x) (recordPut s v (placeIn x) (oneLess x)) (refusedChange s 13)
 
 abbrev pub writeChange : Seen → View → Change
 writeChange s v = writtenBy s v (s .phase)
@@ -82,8 +81,7 @@ recordFound s v book k y =
 
 -- 13 to a lane that is no busy reader
 abbrev pub readBy : Seen → View → List ℕ → Phase → Change
-readBy s v book x =
-    byPhase (refusedChange s 13) (refusedChange s 13) (refusedChange s 13) (refusedChange s 13) (refusedChange s 13) (recordFound s v book (placeIn x) (oneLess x)) (refusedChange s 13) x
+readBy s v book x = cond (isReading x) (recordFound s v book (placeIn x) (oneLess x)) (refusedChange s 13)
 
 abbrev pub readChange : Seen → View → List ℕ → Change
 readChange s v book = readBy s v book (s .phase)

@@ -5,7 +5,7 @@ use mathlib.Core.Bool.{Bool, true}
 use mathlib.Core.List.{List}
 use lib.ListN.{getD, length}
 use borrow.Author.Tests.{ltb-true}
-use Rattle.lists.specs.Lists.{any}
+use Rattle.lists.specs.Lists.{somePass}
 use Rattle.line.specs.declared.Line.{Line}
 use Rattle.line.specs.declared.Phase.{Phase}
 use Rattle.limits.specs.Limits.{mostLanes}
@@ -39,7 +39,7 @@ abbrev pub seenWith : Line → ℕ → Bool → Seen
 seenWith l i gathering =
     record { lanes = l .lanes; capacity = l .capacity; size = l .size; pointer = l .pointer; gathering = gathering; phase = phaseAt l i; flag = getD (l .flag) i 0 }
 
-pub sees-line : (l : Line) (i j : ℕ) (gathering : Bool) → i ≡ j → gathering ≡ any (on isGathered) (l .lane) → seenWith l i gathering ≡ seenOf l j
+pub sees-line : (l : Line) (i j : ℕ) (gathering : Bool) → i ≡ j → gathering ≡ somePass (on isGathered) (l .lane) → seenWith l i gathering ≡ seenOf l j
 sees-line l i j gathering e g = rw (e, g)
 
 -- the line with the lane's own stores
@@ -49,7 +49,7 @@ storedLine l i c = withSize (withPointer (withPhase (withFlag l i (c .flag)) i (
 -- what a run knows of an event by a lane: its answer, the line and the book that it leaves, and that no other lane is gathered than before
 pub record Called (l : Line) (book : List ℕ) (e : Event) (a : Answer) (line′ : Line) (book′ : List ℕ) : Type 0 where
   pub called : callEvent (stateOf l book) e ≡ leaves a line′ book′
-  pub gathered : any (on isGathered) (line′ .lane) ≡ any (on isGathered) (l .lane)
+  pub gathered : somePass (on isGathered) (line′ .lane) ≡ somePass (on isGathered) (l .lane)
 
 module _ (l : Line) (book : List ℕ) (lanes-fit : l .lanes ≤ mostLanes) (ok : sound l (length book) ≡ true) (e : Event) (lane : ℕ) (call : LaneCall) (by : scopeOf e ≡ Scope.Lane lane call)
     (c : Change) (book′ : List ℕ) (seen : Seen) (sees : seen ≡ seenOf l (entryOf lane)) (decision : Decision (decided seen lane (l .view) (l .flag) book call) call book c book′) where
@@ -70,7 +70,7 @@ module _ (l : Line) (book : List ℕ) (lanes-fit : l .lanes ≤ mostLanes) (ok :
   stores line′ same =
       record {
         called = applies ∙ ap (λ (m : Line). leaves (c .answer) m book′) same;
-        gathered = ap (λ (m : Line). any (on isGathered) (m .lane)) (sym same) ∙ gathering-kept l j c regular;
+        gathered = ap (λ (m : Line). somePass (on isGathered) (m .lane)) (sym same) ∙ gathering-kept l j c regular;
       }
 
   pub none-called : (i : ℕ) → i ≡ j → c .wakes ≡ Wakes.None → Called l book e (c .answer) (storedLine l i c) book′

@@ -3,7 +3,7 @@ ghost use Prim.Native.Nat.{_+_, _≤_};
 ghost use mathlib.Core.Bool.{true};
 ghost use mathlib.Core.Path.{_≡_};
 ghost use lib.ListN.{length};
-ghost use Rattle.lists.specs.Lists.{any};
+ghost use Rattle.lists.specs.Lists.{somePass};
 ghost use Rattle.line.specs.Line.{isGathered, lane, on};
 ghost use Rattle.line.specs.Sound.{sound};
 ghost use Rattle.steps.specs.Effects.{woken};
@@ -39,7 +39,7 @@ pub struct RunOutcome {
 
 // Whether some lane of a line is gathered.
 fn some_gathered(line: Line) -> bool
-    ensures { λ r. ⌜ r ≡ any (on isGathered) (line .lane) ⌝ }
+    ensures { λ r. ⌜ r ≡ somePass (on isGathered) (line .lane) ⌝ }
 {
     let lanes = line.lane;
     any_gathered(lanes)

@@ -7,7 +7,7 @@ use lib.ListN.{drop, length, replicate}
 use lib.IntN.{ℤ, pos, _+ℤ_}
 use lib.Dec.{leb}
 use borrow.Author.Tests.{eq-eqb, le-ltb, leb-true, lt-ltb, ne-eqb}
-use Rattle.lists.specs.Lists.{all}
+use Rattle.lists.specs.Lists.{allPass}
 use Rattle.lists.proofs.Tests.{and-right, clash}
 use Rattle.view.specs.View.{endOfBook, place, viewOk}
 use Rattle.view.specs.declared.Place.{Place}
@@ -103,13 +103,13 @@ module _ (l : Line) (book : List ℕ) (ok : sound l (length book) ≡ true) wher
           meets-refused l book 10
           (view-chain nextLane (stateOf l book) displacement extent used blocks ∙ when-open l book ok _ n ∙ fails l book 10 _ (sym (ap viewTest same) ∙ a)) f
 
-      pub view-11 : (o : Outcome) → viewOk (l .capacity) v ≡ true → all (on isIdle) (l .lane) ≡ false → o ≡ refusedOutcome l 11
+      pub view-11 : (o : Outcome) → viewOk (l .capacity) v ≡ true → allPass (on isIdle) (l .lane) ≡ false → o ≡ refusedOutcome l 11
           → Meets (callEvent (stateOf l book) (Event.View displacement extent used blocks)) o book
       view-11 o a b f =
           meets-refused l book 11
           (view-chain nextLane (stateOf l book) displacement extent used blocks ∙ when-open l book ok _ n ∙ passes l book 10 _ (sym (ap viewTest same) ∙ a) ∙ fails l book 11 _ b) f
 
-      pub view-meets : viewOk (l .capacity) v ≡ true → all (on isIdle) (l .lane) ≡ true
+      pub view-meets : viewOk (l .capacity) v ≡ true → allPass (on isIdle) (l .lane) ≡ true
           → Meets (callEvent (stateOf l book) (Event.View displacement extent used blocks)) (record { line = withPointer (withView l v) (place 0); answer = Answer.View }) book
       view-meets a b =
           meets-as
@@ -123,13 +123,13 @@ module _ (l : Line) (book : List ℕ) (ok : sound l (length book) ≡ true) wher
           meets-refused l book 9 (seek-chain nextLane (stateOf l book) whence offset ∙ when-open l book ok _ n ∙ stops l book 9 _ (lt-ltb 2 whence a)) f
 
       module _ (a : whence ≤ 2) where
-        pub seek-11 : (o : Outcome) → all (on isIdle) (l .lane) ≡ false → o ≡ refusedOutcome l 11 → Meets (callEvent (stateOf l book) (Event.Seek whence offset)) o book
+        pub seek-11 : (o : Outcome) → allPass (on isIdle) (l .lane) ≡ false → o ≡ refusedOutcome l 11 → Meets (callEvent (stateOf l book) (Event.Seek whence offset)) o book
         seek-11 o b f =
             meets-refused l book 11
             (seek-chain nextLane (stateOf l book) whence offset ∙ when-open l book ok _ n ∙ goes-on l book 9 _ (le-ltb 2 whence a) ∙ fails l book 11 _ b) f
 
         -- `read` is the offset as the function that adds it reads it
-        module _ (b : all (on isIdle) (l .lane) ≡ true) (end base : Place) (ends : end ≡ endOfBook (l .view) (l .size)) (based : base ≡ baseOf whence (l .pointer) end) (read : ℤ) (exact : read ≡ offset) where
+        module _ (b : allPass (on isIdle) (l .lane) ≡ true) (end base : Place) (ends : end ≡ endOfBook (l .view) (l .size)) (based : base ≡ baseOf whence (l .pointer) end) (read : ℤ) (exact : read ≡ offset) where
           target-is : pos (base .0) +ℤ read ≡ seekTarget l whence offset
           target-is =
               ap (λ (z : ℤ). pos (base .0) +ℤ z) exact

@@ -1,26 +1,27 @@
-// sheet: the papers' notation from standard input to a sheet's bytes on standard output; with the argument `event_text`, a sheet's bytes
+// sheet: the papers' notation from standard input to a sheet's bytes on standard output; with the argument `show`, a sheet's bytes
 // to one readable line an event.
-ghost use Prim.Native.Nat.{_≤_};
+ghost use Prim.Native.Nat.{_+_, _≤_};
 ghost use mathlib.Core.Path.{_≡_};
 ghost use lib.ListN.{length};
+ghost use Rattle.limits.specs.Limits.{mostSheet};
 use event::Cursor;
 use event::Event;
 use event::Reading;
+use limits::MOST_SHEET;
+use notation::MOST_TEXT;
 use notation::Parsed;
 
-// The longest sheet, and the bytes of the longest text.
-const MOST_SHEET: usize = 65536;
-
-const MOST_BYTES: usize = 524288;
+// The bytes of the longest text: a byte has two digits.
+const MOST_BYTES: usize = MOST_TEXT / 2;
 
 // Room for a line.
 const LINE: usize = 640;
 
 // The buffers, as functions of which only the lengths are known where they are used.
-fn text_buffer() -> [u8; notation::MOST_TEXT + 1]
+fn text_buffer() -> [u8; MOST_TEXT + 1]
     ensures { λ r. ⌜ 1048577 ≡ length r ⌝ }
 {
-    [0; notation::MOST_TEXT + 1]
+    [0; MOST_TEXT + 1]
 }
 
 fn bytes_buffer() -> [u8; MOST_BYTES]
@@ -30,7 +31,7 @@ fn bytes_buffer() -> [u8; MOST_BYTES]
 }
 
 fn sheet_buffer() -> [u8; MOST_SHEET + 1]
-    ensures { λ r. ⌜ 65537 ≡ length r ⌝ }
+    ensures { λ r. ⌜ mostSheet + 1 ≡ length r ⌝ }
 {
     [0; MOST_SHEET + 1]
 }
@@ -69,7 +70,7 @@ fn read_notation() {
 }
 
 // The line of an event; false where it could not be written.
-fn write_event(count: u64, event: Event) -> bool {
+fn show_event(count: u64, event: Event) -> bool {
     let mut line = line_buffer();
     let end = event_text::show_event(&mut line, count, event);
     write_first(libc::STDOUT_FILENO, &line, end)
@@ -99,7 +100,7 @@ fn write_lines(sheet: &[u8]) {
             write_last(count, at, reading);
             return;
         };
-        if !write_event(count, event) {
+        if !show_event(count, event) {
             return;
         }
         at = next.at;
@@ -118,7 +119,7 @@ fn read_sheet() {
     write_lines(&space[..length]);
 }
 
-// Whether the first argument is `event_text`.
+// Whether the first argument is `show`.
 fn is_show() -> bool {
     let mut word: [u8; 8] = [0; 8];
     if os::arg(1, &mut word) != 4 {

@@ -6,7 +6,7 @@ use mathlib.Core.List.{List, [], _∷_, map}
 use native.Mathlib.Nat.{not-suc-le-zero}
 use lib.ListN.{drop, getD, length, take}
 use lib.Dec.{eqb, ltb}
-use Rattle.lists.specs.Lists.{all, any, count}
+use Rattle.lists.specs.Lists.{allPass, somePass, countPass}
 use Rattle.lists.proofs.Counts.{all-mono, same-is}
 use Rattle.lists.proofs.Maps.{all-map, any-count, any-map, drop-map}
 use Rattle.view.specs.View.{block, inOrder, isPlain, isPlainBlocks, isUnused, viewOk}
@@ -33,19 +33,19 @@ module _ (l : Line) (ok : flagsOk l ≡ true) where
   same = same-is (l .flag) (map (on flagFor) (l .lane)) ok
 
   -- a flag is up where a phase has one
-  pub raised-any : any (eqb 1) (l .flag) ≡ ltb 0 (count (on isFlagged) (l .lane))
+  pub raised-any : somePass (eqb 1) (l .flag) ≡ ltb 0 (countPass (on isFlagged) (l .lane))
   raised-any = rw same (any-map (on flagFor) (eqb 1) (l .lane) ∙ any-count (on isFlagged) (l .lane))
 
-  idle-past : all (on isIdle) (drop (l .lanes) (l .lane)) ≡ true → all (eqb 0) (drop (l .lanes) (l .flag)) ≡ true
+  idle-past : allPass (on isIdle) (drop (l .lanes) (l .lane)) ≡ true → allPass (eqb 0) (drop (l .lanes) (l .flag)) ≡ true
   idle-past idle =
       rw (same, drop-map (on flagFor) (l .lanes) (l .lane), all-map (on flagFor) (eqb 0) (drop (l .lanes) (l .lane)))
       (all-mono (on isIdle) (λ x. eqb 0 (flagFor (x .phase))) (λ x e. idle-flag (x .phase) e) (drop (l .lanes) (l .lane)) idle)
 
   -- past N it is enough that the lanes are idle
-  pub past-idle : all (on isIdle) (drop (l .lanes) (l .lane)) ≡ pastOk l
-  past-idle = by-test (all (on isIdle) (drop (l .lanes) (l .lane))) refl idle-past
+  pub past-idle : allPass (on isIdle) (drop (l .lanes) (l .lane)) ≡ pastOk l
+  past-idle = by-test (allPass (on isIdle) (drop (l .lanes) (l .lane))) refl idle-past
     where
-      by-test : (b : Bool) → all (on isIdle) (drop (l .lanes) (l .lane)) ≡ b → (b ≡ true → all (eqb 0) (drop (l .lanes) (l .flag)) ≡ true) → b ≡ (b && all (eqb 0) (drop (l .lanes) (l .flag)))
+      by-test : (b : Bool) → allPass (on isIdle) (drop (l .lanes) (l .lane)) ≡ b → (b ≡ true → allPass (eqb 0) (drop (l .lanes) (l .flag)) ≡ true) → b ≡ (b && allPass (eqb 0) (drop (l .lanes) (l .flag)))
       by-test true e f = sym (f refl)
       by-test false e f = refl
 
@@ -54,7 +54,7 @@ abbrev pub firstBlock : List Block → Block
 firstBlock bs = getD bs 0 (block 0 0)
 
 -- the test of the blocks, by the first one and the others
-pub plain-blocks : (bs : List Block) → 0 < length bs → isPlainBlocks bs ≡ (eqb (firstBlock bs .start) 0 && eqb (firstBlock bs .length) 1 && all isUnused (drop 1 bs))
+pub plain-blocks : (bs : List Block) → 0 < length bs → isPlainBlocks bs ≡ (eqb (firstBlock bs .start) 0 && eqb (firstBlock bs .length) 1 && allPass isUnused (drop 1 bs))
 plain-blocks [] h = absurd (not-suc-le-zero h)
 plain-blocks (b ∷ bs) h = refl
 

@@ -6,7 +6,7 @@ use lib.ListN.{length}
 use lib.IntN.{ℤ, pos, negsuc}
 use lib.Dec.{leb, ltb}
 use borrow.Author.Tests.{eqb-true, leb-false, leb-true, ltb-false, not-false, not-true}
-use Rattle.lists.specs.Lists.{all, any}
+use Rattle.lists.specs.Lists.{allPass, somePass}
 use Rattle.lists.proofs.Tests.{and-left, and-right, clash, not-zero}
 use Rattle.view.specs.View.{fits, viewOk}
 use Rattle.view.specs.declared.Place.{Place}
@@ -30,7 +30,7 @@ pub data Steps (search : Search) (x : State) : Call → Result → Type 0 where
   refuses : {c : Call} (n : ℕ) → Steps search x c (refuse n x)
   opens : (lanes capacity : ℕ) → x .line .lanes ≡ 0 → 1 ≤ lanes → lanes ≤ mostLanes → leastCapacity ≤ capacity → capacity ≤ mostCapacity → capacity ≤ length (x .book)
       → Steps search x (given (Event.Open lanes capacity)) (openStep x lanes capacity)
-  wants : (i purpose : ℕ) → i < x .line .lanes → phaseAt (x .line) i ≡ Phase.Idle → any (on isGathered) (x .line .lane) ≡ false
+  wants : (i purpose : ℕ) → i < x .line .lanes → phaseAt (x .line) i ≡ Phase.Idle → somePass (on isGathered) (x .line .lane) ≡ false
       → Steps search x (given (Event.Want i purpose)) (wantStep x i (purposeOf purpose))
   receives : (i : ℕ) (p : Purpose) (v : Place) → i < x .line .lanes → phaseAt (x .line) i ≡ Phase.Woken p v
       → Steps search x (given (Event.Receive i)) (receiveStep x i (Phase.Woken p v))
@@ -49,13 +49,13 @@ pub data Steps (search : Search) (x : State) : Call → Result → Type 0 where
       → Steps search x (given (Event.Look i k)) (lookStep x k)
   frees : (i : ℕ) (v : Place) → i < x .line .lanes → phaseAt (x .line) i ≡ Phase.Holding Purpose.WholeBook v
       → Steps search x (given (Event.Free i)) (freeStep search x i)
-  enters : (i c : ℕ) → i < x .line .lanes → phaseAt (x .line) i ≡ Phase.Idle → all (on isIdleOrGathered) (x .line .lane) ≡ true
+  enters : (i c : ℕ) → i < x .line .lanes → phaseAt (x .line) i ≡ Phase.Idle → allPass (on isIdleOrGathered) (x .line .lane) ≡ true
       → fits (x .line .view) (x .line .capacity) (x .line .pointer) (gatheredTotal (entered (x .line) i c)) ≡ true
       → Steps search x (given (Event.Enter i c)) (enterStep x i c)
   views : (displacement extent used : ℕ) (blocks : Blocks) → 0 < x .line .lanes
-      → viewOk (x .line .capacity) (viewOf displacement extent used blocks) ≡ true → all (on isIdle) (x .line .lane) ≡ true
+      → viewOk (x .line .capacity) (viewOf displacement extent used blocks) ≡ true → allPass (on isIdle) (x .line .lane) ≡ true
       → Steps search x (given (Event.View displacement extent used blocks)) (viewStep x (viewOf displacement extent used blocks))
-  seeks : (whence : ℕ) (offset : ℤ) (n : ℕ) → 0 < x .line .lanes → seekTarget (x .line) whence offset ≡ pos n → n ≤ mostPointer → all (on isIdle) (x .line .lane) ≡ true
+  seeks : (whence : ℕ) (offset : ℤ) (n : ℕ) → 0 < x .line .lanes → seekTarget (x .line) whence offset ≡ pos n → n ≤ mostPointer → allPass (on isIdle) (x .line .lane) ≡ true
       → Steps search x (given (Event.Seek whence offset)) (seekStep x (pos n))
 
 -- ---- from tests that fail to facts
@@ -138,11 +138,11 @@ module _ (search : Search) (x : State) where
   accepted-case (Event.Enter i c) f =
       enters i c (leb-false (x .line .lanes) i (f 8)) (idle-is _ (allow (Event.Enter i c) f)) (not-false _ (f 11)) (not-false _ (f 16))
   accepted-case (Event.View displacement extent used blocks) f =
-      views displacement extent used blocks (not-zero (x .line .lanes) (f 4)) (not-false _ (f 10)) (or-not (all (on isIdle) (x .line .lane)) (f 11))
+      views displacement extent used blocks (not-zero (x .line .lanes) (f 4)) (not-false _ (f 10)) (or-not (allPass (on isIdle) (x .line .lane)) (f 11))
   accepted-case (Event.Seek whence offset) f =
       let r = inside-is (seekTarget (x .line) whence offset) (f 15) in
       subst (λ (z : ℤ). Steps search x (given (Event.Seek whence offset)) (seekStep x z)) (sym (r .1))
-      (seeks whence offset (r .0) (not-zero (x .line .lanes) (f 4)) (r .1) (r .2) (or-not (all (on isIdle) (x .line .lane)) (f 11)))
+      (seeks whence offset (r .0) (not-zero (x .line .lanes) (f 4)) (r .1) (r .2) (or-not (allPass (on isIdle) (x .line .lane)) (f 11)))
   accepted-case Event.Unlisted f = clash (f 2)
 
   pub steps : (c : Call) → Steps search x c (stepBy search x c)

@@ -5,7 +5,7 @@ use mathlib.Core.Bool.{cond, not, _&&_, and-true, or-false}
 use lib.ListN.{length}
 use lib.IntN.{ℤ}
 use lib.Dec.{eqb, leb, ltb}
-use Rattle.lists.specs.Lists.{all, any}
+use Rattle.lists.specs.Lists.{allPass, somePass}
 use Rattle.view.specs.View.{fits, viewOk}
 use Rattle.view.specs.declared.Place.{Place}
 use Rattle.limits.specs.Limits.{leastCapacity, mostCapacity, mostLanes, mostPointer}
@@ -45,7 +45,7 @@ module _ (search : Search) (x : State) where
       → stepBy search x (given (Event.Want i purpose))
       ≡ atLane x i
       (cond (ltb 2 purpose) (refuse 9 x)
-      (cond (any (on isGathered) (x .line .lane)) (refuse 12 x)
+      (cond (somePass (on isGathered) (x .line .lane)) (refuse 12 x)
       (cond (not (isIdle (phaseAt (x .line) i))) (refuse 13 x) (wantStep x i (purposeOf purpose)))))
   unfolding stepBy
   want-chain i purpose = rw (or-false (ltb 2 purpose), and-true (not (isIdle (phaseAt (x .line) i))))
@@ -111,7 +111,7 @@ module _ (search : Search) (x : State) where
   pub enter-chain : (i c : ℕ)
       → stepBy search x (given (Event.Enter i c))
       ≡ atLane x i
-      (cond (not (all (on isIdleOrGathered) (x .line .lane))) (refuse 11 x)
+      (cond (not (allPass (on isIdleOrGathered) (x .line .lane))) (refuse 11 x)
       (cond (not (isIdle (phaseAt (x .line) i))) (refuse 13 x)
       (cond (not (fits (x .line .view) (x .line .capacity) (x .line .pointer) (gatheredTotal (entered (x .line) i c)))) (refuse 16 x) (enterStep x i c))))
   unfolding stepBy
@@ -122,19 +122,19 @@ module _ (search : Search) (x : State) where
       → stepBy search x (given (Event.View displacement extent used blocks))
       ≡ whenOpen x
       (cond (not (viewOk (x .line .capacity) (viewOf displacement extent used blocks))) (refuse 10 x)
-      (cond (not (all (on isIdle) (x .line .lane))) (refuse 11 x) (viewStep x (viewOf displacement extent used blocks))))
+      (cond (not (allPass (on isIdle) (x .line .lane))) (refuse 11 x) (viewStep x (viewOf displacement extent used blocks))))
   unfolding stepBy
-  view-chain displacement extent used blocks = rw (or-false (not (all (on isIdle) (x .line .lane))))
+  view-chain displacement extent used blocks = rw (or-false (not (allPass (on isIdle) (x .line .lane))))
 
   -- 0C: 4 9 11 15
   pub seek-chain : (whence : ℕ) (offset : ℤ)
       → stepBy search x (given (Event.Seek whence offset))
       ≡ whenOpen x
       (cond (ltb 2 whence) (refuse 9 x)
-      (cond (not (all (on isIdle) (x .line .lane))) (refuse 11 x)
+      (cond (not (allPass (on isIdle) (x .line .lane))) (refuse 11 x)
       (cond (isOutside (seekTarget (x .line) whence offset)) (refuse 15 x) (seekStep x (seekTarget (x .line) whence offset)))))
   unfolding stepBy
-  seek-chain whence offset = rw (or-false (not (all (on isIdle) (x .line .lane))))
+  seek-chain whence offset = rw (or-false (not (allPass (on isIdle) (x .line .lane))))
 
   -- an unlisted kind: 2
   pub unlisted-chain : stepBy search x (given Event.Unlisted) ≡ whenSound x (refuse 2 x)

@@ -6,7 +6,7 @@ use mathlib.Core.Bool.{Bool, true, false, not, _||_}
 use mathlib.Core.List.{List, [], _∷_}
 use lib.Dec.{eqb, leb}
 use borrow.Author.Tests.{eq-eqb, eqb-true, not-true}
-use Rattle.lists.specs.Lists.{all, any}
+use Rattle.lists.specs.Lists.{allPass, somePass}
 use Rattle.lists.proofs.Tests.{and-left, and-right, both, by-test, clash}
 use Rattle.view.specs.View.{recordEnd}
 use Rattle.view.specs.declared.Place.{Place}
@@ -35,7 +35,7 @@ applying x c q = q .applies x c
 -- reason k applies, and none that stands before it in the checking order
 pub record First (x : State) (c : Call) (k : ℕ) : Type 0 where
   pub applies : Applies x c k
-  pub earlier : any (applying x c) (before k reasons) ≡ false
+  pub earlier : somePass (applying x c) (before k reasons) ≡ false
 
 -- ---- through a list of reasons
 or-left : (a b : Bool) → a || b ≡ false → a ≡ false
@@ -48,15 +48,15 @@ or-right false b e = e
 
 record FirstIn (qs : List Reason) (x : State) (c : Call) (k : ℕ) : Type 0 where
   applies : appliesIn qs k x c ≡ true
-  earlier : any (applying x c) (before k qs) ≡ false
+  earlier : somePass (applying x c) (before k qs) ≡ false
 
 -- a reason that applies is none of those that have another number
-other-number : (n : ℕ) (qs : List Reason) (x : State) (c : Call) (k : ℕ) → all (λ (r : Reason). not (eqb n (r .number))) qs ≡ true → appliesIn qs k x c ≡ true → eqb n k ≡ false
+other-number : (n : ℕ) (qs : List Reason) (x : State) (c : Call) (k : ℕ) → allPass (λ (r : Reason). not (eqb n (r .number))) qs ≡ true → appliesIn qs k x c ≡ true → eqb n k ≡ false
 other-number n [] x c k d a = clash (sym a)
 other-number n (q ∷ qs) x c k d a =
     by-test (eqb (q .number) k)
-    (λ t. let e = eqb-true (q .number) k t in rw (← e) (not-true _ (and-left (not (eqb n (q .number))) (all (λ (r : Reason). not (eqb n (r .number))) qs) d)))
-    (λ f. other-number n qs x c k (and-right (not (eqb n (q .number))) (all (λ (r : Reason). not (eqb n (r .number))) qs) d) (rw f at a))
+    (λ t. let e = eqb-true (q .number) k t in rw (← e) (not-true _ (and-left (not (eqb n (q .number))) (allPass (λ (r : Reason). not (eqb n (r .number))) qs) d)))
+    (λ f. other-number n qs x c k (and-right (not (eqb n (q .number))) (allPass (λ (r : Reason). not (eqb n (r .number))) qs) d) (rw f at a))
 
 first-here : (q : Reason) (qs : List Reason) (x : State) (c : Call) → q .applies x c ≡ true → FirstIn (q ∷ qs) x c (q .number)
 first-here q qs x c t = let e = eq-eqb (q .number) (q .number) refl in record { applies = rw e t; earlier = rw e }
@@ -74,7 +74,7 @@ outcome (q ∷ qs) d x c r =
     by-test (q .applies x c) (λ t. inl (q .number, first-here q qs x c t, rw t)) (λ f. go f (outcome qs (and-right differs (differIn qs) d) x c r))
   where
     differs : Bool
-    differs = all (λ (p : Reason). not (eqb (q .number) (p .number))) qs
+    differs = allPass (λ (p : Reason). not (eqb (q .number) (p .number))) qs
 
     go : q .applies x c ≡ false → Outcome qs x c r → Outcome (q ∷ qs) x c r
     go f (inl w) = inl (w .0, first-later q qs x c (w .0) f (other-number (q .number) qs x c (w .0) (and-left differs (differIn qs) d) (w .1 .applies)) (w .1), rw f (w .2))
@@ -87,16 +87,16 @@ first-refuses (q ∷ qs) x c r k w =
     by-test (eqb (q .number) k)
     (λ t. let e = eqb-true (q .number) k t in rw (rw t at (w .applies)) (ap (λ (n : ℕ). refuse n x) e))
     (λ n. let none = rw n at (w .earlier) in
-    let f = or-left (q .applies x c) (any (applying x c) (before k qs)) none in
-    rw f (first-refuses qs x c r k (record { applies = rw n at (w .applies); earlier = or-right (q .applies x c) (any (applying x c) (before k qs)) none })))
+    let f = or-left (q .applies x c) (somePass (applying x c) (before k qs)) none in
+    rw f (first-refuses qs x c r k (record { applies = rw n at (w .applies); earlier = or-right (q .applies x c) (somePass (applying x c) (before k qs)) none })))
 
 -- where no reason of the list applies, none does by its number
-none-in : (qs : List Reason) (x : State) (c : Call) → any (applying x c) qs ≡ false → (k : ℕ) → appliesIn qs k x c ≡ false
+none-in : (qs : List Reason) (x : State) (c : Call) → somePass (applying x c) qs ≡ false → (k : ℕ) → appliesIn qs k x c ≡ false
 none-in [] x c n k = refl
 none-in (q ∷ qs) x c n k =
-    by-test (eqb (q .number) k) (λ t. rw t (or-left (q .applies x c) (any (applying x c) qs) n)) (λ f. rw f (none-in qs x c (or-right (q .applies x c) (any (applying x c) qs) n) k))
+    by-test (eqb (q .number) k) (λ t. rw t (or-left (q .applies x c) (somePass (applying x c) qs) n)) (λ f. rw f (none-in qs x c (or-right (q .applies x c) (somePass (applying x c) qs) n) k))
 
-pub none-applies : (x : State) (c : Call) → any (applying x c) reasons ≡ false → (k : ℕ) → NotApplies x c k
+pub none-applies : (x : State) (c : Call) → somePass (applying x c) reasons ≡ false → (k : ℕ) → NotApplies x c k
 none-applies x c n k = none-in reasons x c n k
 
 -- ---- what takes effect is accepted

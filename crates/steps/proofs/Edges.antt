@@ -11,7 +11,7 @@ use lib.Seq.{getD-append-add, getD-drop, getD-set-other, getD-set-same, sets}
 use lib.IntN.{negsuc}
 use lib.Dec.{eqb, leb}
 use borrow.Author.Tests.{eqb-false, eqb-true, le-leb, le-ltb, lt-leb, lt-ltb, ne-eqb}
-use Rattle.lists.specs.Lists.{all, any}
+use Rattle.lists.specs.Lists.{allPass, somePass}
 use Rattle.lists.proofs.Tests.{by-test, clash}
 use Rattle.lists.proofs.Counts.{all-getD}
 use Rattle.view.specs.View.{place, positionOf, recordEnd}
@@ -108,7 +108,7 @@ set-down (b ∷ bs) zero = refl
 set-down (b ∷ bs) (suc i) = set-down bs i
 
 -- a test that not all pass has an element that fails it
-all-fails : {A : Type 0} (p : A → Bool) (l : List A) (d : A) → all p l ≡ false → (j : ℕ) × (p (getD l j d) ≡ false)
+all-fails : {A : Type 0} (p : A → Bool) (l : List A) (d : A) → allPass p l ≡ false → (j : ℕ) × (p (getD l j d) ≡ false)
 all-fails p [] d e = clash e
 all-fails p (y ∷ ys) d e =
     by-test (p y) (λ t. let r = all-fails p ys d (rw t at e) in (suc (r .0), r .1)) (λ f. (0, f))
@@ -148,14 +148,14 @@ pub free-wakes : (search : Search) (x : State) (i : ℕ) → Accepts search x (E
 free-wakes search x i a = ap (λ (r : Result). r .answer) (takes-effect search x (Event.Free i) a)
 
 -- a lane alone wakes none
-none-raised : (f : List ℕ) (i c : ℕ) → all (eqb 0) f ≡ true → firstRaised f i c ≡ Wakes.None
+none-raised : (f : List ℕ) (i c : ℕ) → allPass (eqb 0) f ≡ true → firstRaised f i c ≡ Wakes.None
 unfolding firstRaised
 none-raised f i zero h = refl
 none-raised f i (suc c) h =
     let z : 0 ≡ getD f i 0 = eqb-true 0 (getD f i 0) (all-getD (eqb 0) f i 0 h refl) in
     rw (← z) (none-raised f (i + 1) c h)
 
-none-next : (lanes : ℕ) (f : List ℕ) (i : ℕ) → all (eqb 0) f ≡ true → nextLane lanes f i ≡ Wakes.None
+none-next : (lanes : ℕ) (f : List ℕ) (i : ℕ) → allPass (eqb 0) f ≡ true → nextLane lanes f i ≡ Wakes.None
 unfolding nextLane
 none-next lanes f i h = rw (none-raised f (i + 1) (lanes - (i + 1)) h, none-raised f 0 lanes h)
 
@@ -279,7 +279,7 @@ module _ (search : Search) (x : State) (i : ℕ) (S : sound (x .line) (length (x
   want-9 purpose h = want-chain search x i purpose ∙ reaches _ ∙ rw (lt-ltb 2 purpose h)
 
   -- 12 comes before 13, for the gathered lane too
-  pub want-12 : (purpose : ℕ) → purpose ≤ 2 → any (on isGathered) (x .line .lane) ≡ true → stepBy search x (given (Event.Want i purpose)) ≡ refuse 12 x
+  pub want-12 : (purpose : ℕ) → purpose ≤ 2 → somePass (on isGathered) (x .line .lane) ≡ true → stepBy search x (given (Event.Want i purpose)) ≡ refuse 12 x
   want-12 purpose h g = want-chain search x i purpose ∙ reaches _ ∙ rw (le-ltb 2 purpose h, g)
 
   -- 14 is for a waiting lane, 13 for the others that have no wake
@@ -299,8 +299,8 @@ pub want-8 : (search : Search) (x : State) (i purpose : ℕ) → sound (x .line)
 want-8 search x i purpose S some past = want-chain search x i purpose ∙ rw (S, ne-eqb (x .line .lanes) 0 (λ z. omega arith), le-leb (x .line .lanes) i past)
 
 -- ---- 0C: a negative offset takes its records off the pointer, and is refused below 0
-module _ (search : Search) (x : State) (n : ℕ) (S : sound (x .line) (length (x .book)) ≡ true) (some : 0 < x .line .lanes) (idle : all (on isIdle) (x .line .lane) ≡ true) where
-  seeks : (r : Result) → whenOpen x (cond false (refuse 9 x) (cond (not (all (on isIdle) (x .line .lane))) (refuse 11 x) r)) ≡ r
+module _ (search : Search) (x : State) (n : ℕ) (S : sound (x .line) (length (x .book)) ≡ true) (some : 0 < x .line .lanes) (idle : allPass (on isIdle) (x .line .lane) ≡ true) where
+  seeks : (r : Result) → whenOpen x (cond false (refuse 9 x) (cond (not (allPass (on isIdle) (x .line .lane))) (refuse 11 x) r)) ≡ r
   seeks r = rw (S, ne-eqb (x .line .lanes) 0 (λ z. omega arith), idle)
 
   pub seek-back : n < x .line .pointer .0 → x .line .pointer .0 ≤ mostPointer

@@ -10,7 +10,7 @@ use lib.ListN.{drop, getD, length, length-append, length-drop, length-replicate,
 use lib.Seq.{length-sets, set-getD}
 use lib.Dec.{eqb, leb}
 use borrow.Author.Tests.{eq-eqb, eqb-true, le-leb, leb-true}
-use Rattle.lists.specs.Lists.{all, any, bit, count, every, implies}
+use Rattle.lists.specs.Lists.{allPass, somePass, bit, countPass, every, implies}
 use Rattle.lists.proofs.Tests.{and-both, and-left, and-right, at-test, both, every-nth, implies-from, implies-use}
 use Rattle.lists.proofs.Counts.{all-count, all-getD, all-none, all-set, any-none, bit-zero, count-pos}
 use Rattle.view.specs.View.{fits, place, positionOf, recordEnd, viewOk}
@@ -22,9 +22,9 @@ use Rattle.line.specs.declared.Phase.{Phase}
 use Rattle.line.specs.declared.Lane.{Lane}
 use Rattle.line.specs.declared.Line.{Line}
 use Rattle.limits.specs.Limits.{mostLanes, mostPointer}
-use Rattle.line.specs.Line.{flagFor, hasTurn, idleLane, isBusy, isGathered, isIdle, isWriting, lane, leftIn, on, phaseAt, placeIn, Shaped, unopened}
+use Rattle.line.specs.Line.{Shaped, flagFor, hasTurn, idleLane, isBusy, isFlagged, isGathered, isIdle, isWriting, lane, leftIn, on, phaseAt, placeIn, unopened}
 use Rattle.line.specs.Sound.{apart, gatheredTotal, numbersOk, regionEnd, regionOk, sound, valueOk}
-use Rattle.line.proofs.Phases.{flag-down, isUp, no-overlap, no-region, no-value, one-up}
+use Rattle.line.proofs.Phases.{flag-down, no-overlap, no-region, no-value, one-up}
 use Rattle.line.proofs.Facts.{Facts, Good, OpenNumbers, good-of, open-ok, sound-of, when-open}
 use Rattle.waitlist.specs.NextLane.{nextLane}
 use Rattle.waitlist.specs.declared.Wakes.{Wakes}
@@ -60,18 +60,18 @@ fresh-facts lanes capacity h =
 
 -- ---- a lane that wants
 -- all flags are 0 exactly where no lane is up
-zeros-none : (ls : List Lane) → all (eqb 0) (map (on flagFor) ls) ≡ true → count (on isUp) ls ≡ 0
+zeros-none : (ls : List Lane) → allPass (eqb 0) (map (on flagFor) ls) ≡ true → countPass (on isFlagged) ls ≡ 0
 zeros-none [] e = refl
 zeros-none (x ∷ xs) e =
-    let z = eqb-true 0 (flagFor (x .phase)) (and-left _ (all (eqb 0) (map (on flagFor) xs)) e) in
-    let d : isUp (x .phase) ≡ false = sym (one-up (x .phase)) ∙ ap (λ (n : ℕ). eqb n 1) (sym z) in
+    let z = eqb-true 0 (flagFor (x .phase)) (and-left _ (allPass (eqb 0) (map (on flagFor) xs)) e) in
+    let d : isFlagged (x .phase) ≡ false = sym (one-up (x .phase)) ∙ ap (λ (n : ℕ). eqb n 1) (sym z) in
     rw (d, zeros-none xs (and-right (eqb 0 (flagFor (x .phase))) _ e))
 
-none-zeros : (ls : List Lane) → count (on isUp) ls ≡ 0 → all (eqb 0) (map (on flagFor) ls) ≡ true
+none-zeros : (ls : List Lane) → countPass (on isFlagged) ls ≡ 0 → allPass (eqb 0) (map (on flagFor) ls) ≡ true
 none-zeros [] z = refl
-none-zeros (x ∷ xs) z = and-both _ _ (down-zero (x .phase) (bit-zero (isUp (x .phase)) (omega arith))) (none-zeros xs (omega arith))
+none-zeros (x ∷ xs) z = and-both _ _ (down-zero (x .phase) (bit-zero (isFlagged (x .phase)) (omega arith))) (none-zeros xs (omega arith))
   where
-    down-zero : (y : Phase) → isUp y ≡ false → eqb 0 (flagFor y) ≡ true
+    down-zero : (y : Phase) → isFlagged y ≡ false → eqb 0 (flagFor y) ≡ true
     down-zero y e = rw (flag-down y e)
 
 module _ (l : Line) (F : Facts l) (i : ℕ) (h : i < l .lanes) (e : phaseAt l i ≡ Phase.Idle) where
@@ -80,20 +80,20 @@ module _ (l : Line) (F : Facts l) (i : ℕ) (h : i < l .lanes) (e : phaseAt l i 
       let z : getD (l .flag) i 0 ≡ 0 = rw (F .base .flags) (List·getD-map (on flagFor) (l .lane) i idleLane ∙ rw e) in
       ap (λ (n : ℕ). set (l .flag) i n) (sym z) ∙ set-getD (l .flag) i 0
 
-  pub others-none : othersDown l i ≡ true → count (on isUp) (l .lane) ≡ 0
+  pub others-none : othersDown l i ≡ true → countPass (on isFlagged) (l .lane) ≡ 0
   others-none t = zeros-none (l .lane) (rw (own-flag, F .base .flags) at t)
 
-  pub others-some : othersDown l i ≡ false → 0 < count (on isUp) (l .lane)
+  pub others-some : othersDown l i ≡ false → 0 < countPass (on isFlagged) (l .lane)
   others-some t =
-      elim (decLt 0 (count (on isUp) (l .lane))) [
+      elim (decLt 0 (countPass (on isFlagged) (l .lane))) [
         | yes u ↦ u
         | no u ↦ let z : othersDown l i ≡ true = rw (own-flag, F .base .flags) (none-zeros (l .lane) (omega arith)) in both z t
       ]
 
-  module _ (g : any (on isGathered) (l .lane) ≡ false) where
+  module _ (g : somePass (on isGathered) (l .lane) ≡ false) where
     -- the lane raises its flag in a phase that is up
     raise-facts : (y : Phase) → isBusy y ≡ false → isGathered y ≡ false → flagFor y ≡ 1 → valueOk (l .pointer) y ≡ true
-        → count (on hasTurn) (placed l i y) ≡ min 1 (count (on isUp) (placed l i y)) → Facts (raisedAs l i y)
+        → countPass (on hasTurn) (placed l i y) ≡ min 1 (countPass (on isFlagged) (placed l i y)) → Facts (raisedAs l i y)
     raise-facts y not-busy not-gathered up value one =
         record {
           base = store-base l (F .base) i y (l .pointer) (set (l .flag) i 1) h (omega arith) (flags-set l (F .base) i y 1 (sym up)) (no-region l y not-busy) (λ j n. no-overlap y (phaseAt l j) not-busy);
@@ -101,20 +101,20 @@ module _ (l : Line) (F : Facts l) (i : ℕ) (h : i < l .lanes) (e : phaseAt l i 
           gathering = λ p. absurd (omega (arith, none p));
         }
       where
-        none : 0 < count (on isGathered) (placed l i y) → count (on isGathered) (placed l i y) ≡ 0
+        none : 0 < countPass (on isGathered) (placed l i y) → countPass (on isGathered) (placed l i y) ≡ 0
         none p =
-            let r : count (on isGathered) (placed l i y) + bit false ≡ count (on isGathered) (l .lane) + bit false = rw not-gathered at (recount l (F .base) isGathered i Phase.Idle y h e) in
+            let r : countPass (on isGathered) (placed l i y) + bit false ≡ countPass (on isGathered) (l .lane) + bit false = rw not-gathered at (recount l (F .base) isGathered i Phase.Idle y h e) in
             omega (arith, any-none (on isGathered) (l .lane) g)
 
     pub holds-facts : (p : Purpose) → othersDown l i ≡ true → Facts (raisedAs l i (Phase.Holding p (l .pointer)))
     holds-facts p t =
         raise-facts (Phase.Holding p (l .pointer)) refl refl refl (eq-eqb (l .pointer .0) (l .pointer .0) refl)
-        (omega (arith, recount l (F .base) hasTurn i Phase.Idle (Phase.Holding p (l .pointer)) h e, recount l (F .base) isUp i Phase.Idle (Phase.Holding p (l .pointer)) h e, others-none t, F .turn .one))
+        (omega (arith, recount l (F .base) hasTurn i Phase.Idle (Phase.Holding p (l .pointer)) h e, recount l (F .base) isFlagged i Phase.Idle (Phase.Holding p (l .pointer)) h e, others-none t, F .turn .one))
 
     pub waits-facts : (p : Purpose) → othersDown l i ≡ false → Facts (raisedAs l i (Phase.Waiting p))
     waits-facts p t =
         raise-facts (Phase.Waiting p) refl refl refl refl
-        (omega (arith, recount l (F .base) hasTurn i Phase.Idle (Phase.Waiting p) h e, recount l (F .base) isUp i Phase.Idle (Phase.Waiting p) h e, others-some t, F .turn .one))
+        (omega (arith, recount l (F .base) hasTurn i Phase.Idle (Phase.Waiting p) h e, recount l (F .base) isFlagged i Phase.Idle (Phase.Waiting p) h e, others-some t, F .turn .one))
 
 -- ---- a lane that receives its wake
 pub receive-facts : (l : Line) → Facts l → (i : ℕ) (p : Purpose) (v : Place) → i < l .lanes → phaseAt l i ≡ Phase.Woken p v → Facts (withPhase l i (Phase.Holding p v))
@@ -123,13 +123,13 @@ receive-facts l F i p v h e =
       base = store-base l (F .base) i (Phase.Holding p v) (l .pointer) (l .flag) h (omega arith) (flags-same l (F .base) i (Phase.Holding p v) (rw e)) refl (λ j n. refl);
       turn =
           record {
-            one = omega (arith, counted hasTurn, counted isUp, F .turn .one);
+            one = omega (arith, counted hasTurn, counted isFlagged, F .turn .one);
             values = all-set (on (valueOk (l .pointer))) (l .lane) i (lane (Phase.Holding p v)) (F .turn .values) (rw e at (all-getD (on (valueOk (l .pointer))) (l .lane) i idleLane (F .turn .values) refl));
           };
-      gathering = λ g. absurd (omega (arith, counted isGathered, none-gathered l F (count-pos (on isUp) (l .lane) i idleLane (short l (F .base) i h) (rw e))));
+      gathering = λ g. absurd (omega (arith, counted isGathered, none-gathered l F (count-pos (on isFlagged) (l .lane) i idleLane (short l (F .base) i h) (rw e))));
     }
   where
-    counted : (q : Phase → Bool) → count (on q) (placed l i (Phase.Holding p v)) + bit (q (Phase.Woken p v)) ≡ count (on q) (l .lane) + bit (q (Phase.Holding p v))
+    counted : (q : Phase → Bool) → countPass (on q) (placed l i (Phase.Holding p v)) + bit (q (Phase.Woken p v)) ≡ countPass (on q) (l .lane) + bit (q (Phase.Holding p v))
     counted q = recount l (F .base) q i (Phase.Woken p v) (Phase.Holding p v) h e
 
 -- ---- a holder that releases
@@ -264,22 +264,22 @@ rest-facts l F ok i o y h e still flat R =
     new-loose : isGathered new ≡ false
     new-loose = busy-by (λ (z : Phase). isGathered z ≡ false) (leftIn y) y (λ n. refl) (λ n. R .not-gathered)
 
-    flat-up : (z : Phase) → flagFor z ≡ 0 → isUp z ≡ false
+    flat-up : (z : Phase) → flagFor z ≡ 0 → isFlagged z ≡ false
     flat-up z q = sym (one-up z) ∙ ap (λ (n : ℕ). eqb n 1) q
 
-    turns : count (on hasTurn) (placed l i new) + bit false ≡ count (on hasTurn) (l .lane) + bit false
+    turns : countPass (on hasTurn) (placed l i new) + bit false ≡ countPass (on hasTurn) (l .lane) + bit false
     turns = rw (new-turn, still) at (recount l (F .base) hasTurn i o new h e)
 
-    ups : count (on isUp) (placed l i new) + bit false ≡ count (on isUp) (l .lane) + bit false
-    ups = rw (flat-up new new-down, flat-up o flat) at (recount l (F .base) isUp i o new h e)
+    ups : countPass (on isFlagged) (placed l i new) + bit false ≡ countPass (on isFlagged) (l .lane) + bit false
+    ups = rw (flat-up new new-down, flat-up o flat) at (recount l (F .base) isFlagged i o new h e)
 
-    gathers : count (on isGathered) (placed l i new) + bit (isGathered o) ≡ count (on isGathered) (l .lane) + bit false
+    gathers : countPass (on isGathered) (placed l i new) + bit (isGathered o) ≡ countPass (on isGathered) (l .lane) + bit false
     gathers = rw new-loose at (recount l (F .base) isGathered i o new h e)
 
-    none-busy : count (on isGathered) (l .lane) ≡ 0
+    none-busy : countPass (on isGathered) (l .lane) ≡ 0
     none-busy =
         let b = count-pos (on isBusy) (l .lane) i idleLane (short l (F .base) i h) (ap isBusy e ∙ R .busy) in
-        elim (decLt 0 (count (on isGathered) (l .lane))) [
+        elim (decLt 0 (countPass (on isGathered) (l .lane))) [
           | yes g ↦ absurd (omega (arith, kinds-count (l .lane), ready-length l (F .gathering g)))
           | no g ↦ omega arith
         ]
@@ -291,11 +291,11 @@ some-left l F i o e b =
     leb-true 1 (leftIn o) (every-nth (regionTests l o) 0 (implies-use (isBusy o) (every (regionTests l o)) r b))
 
 -- ---- all lanes idle: another pointer, another view
-pub idle-facts : (l : Line) → Facts l → (v : View) (k : Place) → all (on isIdle) (l .lane) ≡ true → length (v .block) ≡ 8 → Facts (withPointer (withView l v) k)
+pub idle-facts : (l : Line) → Facts l → (v : View) (k : Place) → allPass (on isIdle) (l .lane) ≡ true → length (v .block) ≡ 8 → Facts (withPointer (withView l v) k)
 idle-facts l F v k e blocks =
     let idle = all-count (on isIdle) (l .lane) e in
     let kinds = kinds-count (l .lane) in
-    let none-turn : count (on hasTurn) (l .lane) ≡ 0 = omega (arith, F .turn .one) in
+    let none-turn : countPass (on hasTurn) (l .lane) ≡ 0 = omega (arith, F .turn .one) in
     record {
       base =
           record {

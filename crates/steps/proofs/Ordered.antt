@@ -9,7 +9,7 @@ use native.Mathlib.Decide.{decLt}
 use lib.ListN.{getD, length, replicate}
 use lib.Dec.{eqb}
 use borrow.Author.Tests.{eqb-false, eqb-true, le-leb}
-use Rattle.lists.specs.Lists.{all, bit, count}
+use Rattle.lists.specs.Lists.{allPass, bit, countPass}
 use Rattle.lists.proofs.Tests.{and-both, and-left, and-right, at-test, clash, implies-from, not-zero}
 use Rattle.lists.proofs.Counts.{all-none, all-set, bit-zero}
 use Rattle.view.specs.View.{fits, place, viewOk}
@@ -18,9 +18,9 @@ use Rattle.view.proofs.Laws.{fits-part}
 use Rattle.line.specs.declared.Phase.{Phase}
 use Rattle.line.specs.declared.Lane.{Lane}
 use Rattle.line.specs.declared.Line.{Line}
-use Rattle.line.specs.Line.{countIn, flagFor, hasTurn, idleLane, isBusy, isGathered, isIdleOrGathered, lane, on, phaseAt}
+use Rattle.line.specs.Line.{countIn, flagFor, hasTurn, idleLane, isBusy, isFlagged, isGathered, isIdleOrGathered, lane, on, phaseAt}
 use Rattle.line.specs.Sound.{apart, gatheredTotal, regionEnd, regionOk, valueOk}
-use Rattle.line.proofs.Phases.{apart-idle, apart-sym, flag-down, isUp, no-value}
+use Rattle.line.proofs.Phases.{apart-idle, apart-sym, flag-down, no-value}
 use Rattle.line.proofs.Facts.{Base, Facts, up-split}
 use Rattle.steps.specs.State.{withLanes, withPointer}
 use Rattle.steps.specs.Effects.{allEntered, entered, started, startedAt, writing}
@@ -67,25 +67,25 @@ ready-start k (Phase.BusyWriting n v) e = clash (sym e)
 ready-start k (Phase.BusyReading n v) e = clash (sym e)
 ready-start k (Phase.Gathered n) e = refl
 
-pub started-starts : (k : ℕ) (ls : List Lane) → all (on isIdleOrGathered) ls ≡ true → started k ls ≡ starts k ls
+pub started-starts : (k : ℕ) (ls : List Lane) → allPass (on isIdleOrGathered) ls ≡ true → started k ls ≡ starts k ls
 unfolding started starts
 started-starts k [] e = refl
 started-starts k (x ∷ xs) e =
-    rw (ready-start k (x .phase) (and-left (isIdleOrGathered (x .phase)) (all (on isIdleOrGathered) xs) e), started-starts (k + countIn (x .phase)) xs (and-right (isIdleOrGathered (x .phase)) (all (on isIdleOrGathered) xs) e))
+    rw (ready-start k (x .phase) (and-left (isIdleOrGathered (x .phase)) (allPass (on isIdleOrGathered) xs) e), started-starts (k + countIn (x .phase)) xs (and-right (isIdleOrGathered (x .phase)) (allPass (on isIdleOrGathered) xs) e))
 
 starts-length : (k : ℕ) (ls : List Lane) → length (starts k ls) ≡ length ls
 unfolding starts
 starts-length k [] = refl
 starts-length k (x ∷ xs) = ap suc (starts-length (k + countIn (x .phase)) xs)
 
-starts-none : (p : Phase → Bool) → p Phase.Idle ≡ false → ((n : ℕ) (v : Place) → p (Phase.BusyWriting n v) ≡ false) → (k : ℕ) (ls : List Lane) → count (on p) (starts k ls) ≡ 0
+starts-none : (p : Phase → Bool) → p Phase.Idle ≡ false → ((n : ℕ) (v : Place) → p (Phase.BusyWriting n v) ≡ false) → (k : ℕ) (ls : List Lane) → countPass (on p) (starts k ls) ≡ 0
 unfolding starts
 starts-none p a b k [] = refl
 starts-none p a b k (x ∷ xs) = rw (start-fails p a b (countIn (x .phase)) k, starts-none p a b (k + countIn (x .phase)) xs)
 
 -- what holds of an idle lane and of a busy writer holds of each lane after the start
 pub started-by : (P : Phase → Type 0) → P Phase.Idle → ((n : ℕ) (v : Place) → P (Phase.BusyWriting n v)) → (k : ℕ) (ls : List Lane)
-    → all (on isIdleOrGathered) ls ≡ true → (j : ℕ) → P ((getD (started k ls) j idleLane) .phase)
+    → allPass (on isIdleOrGathered) ls ≡ true → (j : ℕ) → P ((getD (started k ls) j idleLane) .phase)
 unfolding starts
 started-by P a b k ls e j = rw (started-starts k ls e) (go k ls j)
   where
@@ -95,13 +95,13 @@ started-by P a b k ls e j = rw (started-starts k ls e) (go k ls j)
     go k (x ∷ xs) (suc j) = go (k + countIn (x .phase)) xs j
 
 -- all lanes are idle or gathered after one more has entered
-pub entered-all : (l : Line) (i c : ℕ) → all (on isIdleOrGathered) (l .lane) ≡ true → all (on isIdleOrGathered) (entered l i c) ≡ true
+pub entered-all : (l : Line) (i c : ℕ) → allPass (on isIdleOrGathered) (l .lane) ≡ true → allPass (on isIdleOrGathered) (entered l i c) ≡ true
 entered-all l i c ready = all-set (on isIdleOrGathered) (l .lane) i (lane (Phase.Gathered c)) ready refl
 
 -- no flag is up before or after
-zero-flags : (ls : List Lane) → count (on isUp) ls ≡ 0 → map (on flagFor) ls ≡ replicate (length ls) 0
+zero-flags : (ls : List Lane) → countPass (on isFlagged) ls ≡ 0 → map (on flagFor) ls ≡ replicate (length ls) 0
 zero-flags [] z = refl
-zero-flags (x ∷ xs) z = rw (flag-down (x .phase) (bit-zero (isUp (x .phase)) (omega arith)), zero-flags xs (omega arith))
+zero-flags (x ∷ xs) z = rw (flag-down (x .phase) (bit-zero (isFlagged (x .phase)) (omega arith)), zero-flags xs (omega arith))
 
 starts-at : (k : ℕ) (ls : List Lane) (j : ℕ) → (getD ls j idleLane) .phase ≡ Phase.Idle → (getD (starts k ls) j idleLane) .phase ≡ Phase.Idle
 unfolding starts
@@ -126,7 +126,7 @@ starts-disjoint k (x ∷ xs) (suc i) zero n =
 starts-disjoint k (x ∷ xs) (suc i) (suc j) n = starts-disjoint (k + countIn (x .phase)) xs i j (λ e. n (ap suc e))
 
 starts-regions : (l : Line) (k : ℕ) (ls : List Lane) → k + gatheredTotal ls ≤ l .pointer .0
-    → ((a b : ℕ) → k ≤ a → a + b ≤ k + gatheredTotal ls → fits (l .view) (l .capacity) (place a) b ≡ true) → all (on (regionOk l)) (starts k ls) ≡ true
+    → ((a b : ℕ) → k ≤ a → a + b ≤ k + gatheredTotal ls → fits (l .view) (l .capacity) (place a) b ≡ true) → allPass (on (regionOk l)) (starts k ls) ≡ true
 unfolding starts
 starts-regions l k [] h f = refl
 starts-regions l k (x ∷ xs) h f =
@@ -134,15 +134,15 @@ starts-regions l k (x ∷ xs) h f =
     (starts-regions l (k + countIn (x .phase)) xs (omega arith) (λ a b u w. f a b (omega arith) (omega arith)))
 
 -- ---- a lane enters
-module _ (l : Line) (F : Facts l) (i c : ℕ) (h : i < l .lanes) (e : phaseAt l i ≡ Phase.Idle) (ready : all (on isIdleOrGathered) (l .lane) ≡ true)
+module _ (l : Line) (F : Facts l) (i c : ℕ) (h : i < l .lanes) (e : phaseAt l i ≡ Phase.Idle) (ready : allPass (on isIdleOrGathered) (l .lane) ≡ true)
     (room : fits (l .view) (l .capacity) (l .pointer) (gatheredTotal (entered l i c)) ≡ true) where
-  counted : (p : Phase → Bool) → count (on p) (entered l i c) + bit (p Phase.Idle) ≡ count (on p) (l .lane) + bit (p (Phase.Gathered c))
+  counted : (p : Phase → Bool) → countPass (on p) (entered l i c) + bit (p Phase.Idle) ≡ countPass (on p) (l .lane) + bit (p (Phase.Gathered c))
   counted p = recount l (F .base) p i Phase.Idle (Phase.Gathered c) h e
 
-  entered-up : count (on isUp) (entered l i c) ≡ 0
-  entered-up = omega (arith, counted isUp, kinds-count (l .lane), ready-count (l .lane) ready)
+  entered-up : countPass (on isFlagged) (entered l i c) ≡ 0
+  entered-up = omega (arith, counted isFlagged, kinds-count (l .lane), ready-count (l .lane) ready)
 
-  entered-turn : count (on hasTurn) (entered l i c) ≡ 0
+  entered-turn : countPass (on hasTurn) (entered l i c) ≡ 0
   entered-turn = omega (arith, up-split (entered l i c), entered-up)
 
   entered-flags : l .flag ≡ map (on flagFor) (entered l i c)
@@ -151,21 +151,21 @@ module _ (l : Line) (F : Facts l) (i c : ℕ) (h : i < l .lanes) (e : phaseAt l 
   entered-base : Base (withLanes l (entered l i c))
   entered-base = store-base l (F .base) i (Phase.Gathered c) (l .pointer) (l .flag) h (omega arith) entered-flags refl (λ j n. refl)
 
-  entered-ready : all (on isIdleOrGathered) (entered l i c) ≡ true
+  entered-ready : allPass (on isIdleOrGathered) (entered l i c) ≡ true
   entered-ready = entered-all l i c ready
 
   -- as many as there are lanes at the most
-  pub entered-most : count (on isGathered) (entered l i c) ≤ l .lanes
+  pub entered-most : countPass (on isGathered) (entered l i c) ≤ l .lanes
   entered-most =
-      elim (decLt 0 (count (on isGathered) (l .lane))) [
+      elim (decLt 0 (countPass (on isGathered) (l .lane))) [
         | yes p ↦ omega (arith, counted isGathered, F .gathering p .fewer)
         | no p ↦ omega (arith, counted isGathered)
       ]
 
   pub enter-facts : allEntered l (entered l i c) ≡ false → Facts (withLanes l (entered l i c))
   enter-facts q =
-      let not-all = eqb-false (count (on isGathered) (entered l i c)) (l .lanes) q in
-      let lanes-fit : count (on isGathered) (entered l i c) ≢ l .lanes = not-all in
+      let not-all = eqb-false (countPass (on isGathered) (entered l i c)) (l .lanes) q in
+      let lanes-fit : countPass (on isGathered) (entered l i c) ≢ l .lanes = not-all in
       record {
         base = entered-base;
         turn =
@@ -181,13 +181,13 @@ module _ (l : Line) (F : Facts l) (i c : ℕ) (h : i < l .lanes) (e : phaseAt l 
     abbrev completed : Line
     completed = withPointer (withLanes l (starts (l .pointer .0) (entered l i c))) (place (l .pointer .0 + gatheredTotal (entered l i c)))
 
-    none-of : (p : Phase → Bool) → p Phase.Idle ≡ false → ((n : ℕ) (v : Place) → p (Phase.BusyWriting n v) ≡ false) → count (on p) (starts (l .pointer .0) (entered l i c)) ≡ 0
+    none-of : (p : Phase → Bool) → p Phase.Idle ≡ false → ((n : ℕ) (v : Place) → p (Phase.BusyWriting n v) ≡ false) → countPass (on p) (starts (l .pointer .0) (entered l i c)) ≡ 0
     none-of p a b = starts-none p a b (l .pointer .0) (entered l i c)
 
     completed-flags : l .flag ≡ map (on flagFor) (starts (l .pointer .0) (entered l i c))
     completed-flags =
         entered-flags ∙ zero-flags (entered l i c) entered-up
-        ∙ sym (zero-flags (starts (l .pointer .0) (entered l i c)) (none-of isUp refl (λ n v. refl)) ∙ ap (λ (n : ℕ). replicate n 0) (starts-length (l .pointer .0) (entered l i c)))
+        ∙ sym (zero-flags (starts (l .pointer .0) (entered l i c)) (none-of isFlagged refl (λ n v. refl)) ∙ ap (λ (n : ℕ). replicate n 0) (starts-length (l .pointer .0) (entered l i c)))
 
     completed-facts : Facts completed
     completed-facts =
@@ -204,7 +204,7 @@ module _ (l : Line) (F : Facts l) (i c : ℕ) (h : i < l .lanes) (e : phaseAt l 
               };
           turn =
               record {
-                one = omega (arith, none-of hasTurn refl (λ n v. refl), none-of isUp refl (λ n v. refl));
+                one = omega (arith, none-of hasTurn refl (λ n v. refl), none-of isFlagged refl (λ n v. refl));
                 values = all-none (on hasTurn) (on (valueOk (completed .pointer))) (λ x t. no-value (completed .pointer) (x .phase) t) (completed .lane) (none-of hasTurn refl (λ n v. refl));
               };
           gathering = λ g. absurd (omega (arith, none-of isGathered refl (λ n v. refl)));

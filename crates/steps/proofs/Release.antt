@@ -8,7 +8,7 @@ use native.Mathlib.Decide.{decLt}
 use lib.ListN.{getD, length, set, List·getD-map}
 use lib.Dec.{eqb}
 use borrow.Author.Tests.{eq-eqb}
-use Rattle.lists.specs.Lists.{all, bit, count}
+use Rattle.lists.specs.Lists.{allPass, bit, countPass}
 use Rattle.lists.proofs.Tests.{both}
 use Rattle.lists.proofs.Counts.{all-none, all-set, count-find, count-pos, count-zero}
 use Rattle.view.specs.declared.Place.{Place}
@@ -16,9 +16,9 @@ use Rattle.line.specs.declared.Purpose.{Purpose}
 use Rattle.line.specs.declared.Phase.{Phase}
 use Rattle.line.specs.declared.Lane.{Lane}
 use Rattle.line.specs.declared.Line.{Line}
-use Rattle.line.specs.Line.{flagFor, hasTurn, idleLane, isGathered, lane, on, phaseAt, purposeIn}
+use Rattle.line.specs.Line.{flagFor, hasTurn, idleLane, isFlagged, isGathered, lane, on, phaseAt, purposeIn}
 use Rattle.line.specs.Sound.{apart, regionOk, valueOk}
-use Rattle.line.proofs.Phases.{isUp, no-value, one-up, waiting-is}
+use Rattle.line.proofs.Phases.{no-value, one-up, waiting-is}
 use Rattle.line.proofs.Facts.{Base, Facts, Gathering}
 use Rattle.waitlist.specs.Distance.{distance}
 use Rattle.waitlist.specs.NextLane.{nextLane, raised}
@@ -29,15 +29,15 @@ use Rattle.steps.specs.Effects.{lowered, nextOf, released, wake, woken}
 use Rattle.steps.proofs.Stored.{flags-same, flags-set, kinds-count, other-phase, placed, ready-length, recount, same-phase, short, store-base, stored}
 
 -- a flag is up where the lane's phase says so
-pub raised-up : (l : Line) → Base l → (j : ℕ) → raised (l .flag) j ≡ isUp (phaseAt l j)
+pub raised-up : (l : Line) → Base l → (j : ℕ) → raised (l .flag) j ≡ isFlagged (phaseAt l j)
 raised-up l B j =
     let e : getD (l .flag) j 0 ≡ flagFor (phaseAt l j) = rw (B .flags) (List·getD-map (on flagFor) (l .lane) j idleLane) in
     ap (λ (n : ℕ). eqb n 1) e ∙ one-up (phaseAt l j)
 
 -- where a flag is up nobody is gathered
-pub none-gathered : (l : Line) → Facts l → 0 < count (on isUp) (l .lane) → count (on isGathered) (l .lane) ≡ 0
+pub none-gathered : (l : Line) → Facts l → 0 < countPass (on isFlagged) (l .lane) → countPass (on isGathered) (l .lane) ≡ 0
 none-gathered l F u =
-    elim (decLt 0 (count (on isGathered) (l .lane))) [
+    elim (decLt 0 (countPass (on isGathered) (l .lane))) [
       | yes g ↦ absurd (omega (arith, kinds-count (l .lane), ready-length l (F .gathering g), F .base .long))
       | no g ↦ omega arith
     ]
@@ -47,7 +47,7 @@ pub record Leaving (l : Line) (i : ℕ) (o y : Phase) (k : Place) : Type 0 where
   pub inside : i < l .lanes
   pub was : phaseAt l i ≡ o
   pub turn : hasTurn o ≡ true
-  pub up : isUp o ≡ true
+  pub up : isFlagged o ≡ true
   pub no-turn : hasTurn y ≡ false
   pub down : flagFor y ≡ 0
   pub not-gathered : isGathered y ≡ false
@@ -61,46 +61,46 @@ pub record Chosen (l : Line) (i w : ℕ) : Type 0 where
   pub other : w ≢ i
   pub purpose : Purpose
   pub was : phaseAt l w ≡ Phase.Waiting purpose
-  pub nearer : (j : ℕ) → j < l .lanes → isUp (phaseAt l j) ≡ true → j ≢ i → j ≢ w → distance (l .lanes) w j < distance (l .lanes) i j
+  pub nearer : (j : ℕ) → j < l .lanes → isFlagged (phaseAt l j) ≡ true → j ≢ i → j ≢ w → distance (l .lanes) w j < distance (l .lanes) i j
 
 module _ (l : Line) (F : Facts l) (i : ℕ) (o y : Phase) (k : Place) (L : Leaving l i o y k) where
   -- the line between the releaser's leaving and the wake
   abbrev between : Line
   between = lowered l i y k
 
-  down-up : isUp y ≡ false
+  down-up : isFlagged y ≡ false
   down-up = sym (one-up y) ∙ ap (λ (n : ℕ). eqb n 1) (L .down)
 
   between-base : Base between
   between-base = store-base l (F .base) i y k (set (l .flag) i 0) (L .inside) (L .rise) (flags-set l (F .base) i y 0 (sym (L .down))) (L .ok) (L .away)
 
   -- one flag less is up, nobody has the turn, nobody is gathered
-  pub up-less : count (on isUp) (l .lane) ≡ count (on isUp) (placed l i y) + 1
+  pub up-less : countPass (on isFlagged) (l .lane) ≡ countPass (on isFlagged) (placed l i y) + 1
   up-less =
-      let r : count (on isUp) (placed l i y) + bit true ≡ count (on isUp) (l .lane) + bit false = rw (L .up, down-up) at (recount l (F .base) isUp i o y (L .inside) (L .was)) in
+      let r : countPass (on isFlagged) (placed l i y) + bit true ≡ countPass (on isFlagged) (l .lane) + bit false = rw (L .up, down-up) at (recount l (F .base) isFlagged i o y (L .inside) (L .was)) in
       omega arith
 
-  pub turn-none : count (on hasTurn) (placed l i y) ≡ 0
+  pub turn-none : countPass (on hasTurn) (placed l i y) ≡ 0
   turn-none =
-      let r : count (on hasTurn) (placed l i y) + bit true ≡ count (on hasTurn) (l .lane) + bit false = rw (L .turn, L .no-turn) at (recount l (F .base) hasTurn i o y (L .inside) (L .was)) in
+      let r : countPass (on hasTurn) (placed l i y) + bit true ≡ countPass (on hasTurn) (l .lane) + bit false = rw (L .turn, L .no-turn) at (recount l (F .base) hasTurn i o y (L .inside) (L .was)) in
       omega (arith, F .turn .one)
 
-  pub gathered-none : count (on isGathered) (placed l i y) ≡ 0
+  pub gathered-none : countPass (on isGathered) (placed l i y) ≡ 0
   gathered-none =
-      let r : count (on isGathered) (placed l i y) + bit (isGathered o) ≡ count (on isGathered) (l .lane) + bit false = rw (L .not-gathered) at (recount l (F .base) isGathered i o y (L .inside) (L .was)) in
+      let r : countPass (on isGathered) (placed l i y) + bit (isGathered o) ≡ countPass (on isGathered) (l .lane) + bit false = rw (L .not-gathered) at (recount l (F .base) isGathered i o y (L .inside) (L .was)) in
       let q = none-gathered l F (omega (arith, up-less)) in omega arith
 
   own-down : raised (set (l .flag) i 0) i ≡ false
-  own-down = raised-up between between-base i ∙ ap isUp (same-phase l (F .base) i y (L .inside)) ∙ down-up
+  own-down = raised-up between between-base i ∙ ap isFlagged (same-phase l (F .base) i y (L .inside)) ∙ down-up
 
   -- a lane that is up after the drop is another one, and was up before
   up-other : (j : ℕ) → raised (set (l .flag) i 0) j ≡ true → j ≢ i
   up-other j u z = both u (rw z own-down)
 
-  values-none : all (on (valueOk k)) (placed l i y) ≡ true
+  values-none : allPass (on (valueOk k)) (placed l i y) ≡ true
   values-none = all-none (on hasTurn) (on (valueOk k)) (λ x e. no-value k (x .phase) e) (placed l i y) turn-none
 
-  no-gathering : 0 < count (on isGathered) (placed l i y) → Gathering between
+  no-gathering : 0 < countPass (on isGathered) (placed l i y) → Gathering between
   no-gathering g = absurd (omega (arith, gathered-none))
 
   -- ---- nobody waits
@@ -112,17 +112,17 @@ module _ (l : Line) (F : Facts l) (i : ℕ) (o y : Phase) (k : Place) (L : Leavi
         gathering = no-gathering;
       }
     where
-      found : ((j : ℕ) × (j < length (placed l i y)) × (isUp ((getD (placed l i y) j idleLane) .phase) ≡ true)) → ⊥
+      found : ((j : ℕ) × (j < length (placed l i y)) × (isFlagged ((getD (placed l i y) j idleLane) .phase) ≡ true)) → ⊥
       found r =
           elim (decLt (r .0) (l .lanes)) [
             | yes b ↦ both (raised-up between between-base (r .0) ∙ r .2) (next-none (l .lanes) (set (l .flag) i 0) i (L .inside) own-down q (r .0) b)
-            | no b ↦ let z : isUp ((getD (placed l i y) (r .0) idleLane) .phase) ≡ false = rw (between-base .past (r .0) (omega arith)) in both (r .2) z
+            | no b ↦ let z : isFlagged ((getD (placed l i y) (r .0) idleLane) .phase) ≡ false = rw (between-base .past (r .0) (omega arith)) in both (r .2) z
           ]
 
-      none-up : count (on isUp) (placed l i y) ≡ 0
+      none-up : countPass (on isFlagged) (placed l i y) ≡ 0
       none-up =
-          elim (decLt 0 (count (on isUp) (placed l i y))) [
-            | yes p ↦ absurd (found (count-find (on isUp) (placed l i y) idleLane p))
+          elim (decLt 0 (countPass (on isFlagged) (placed l i y))) [
+            | yes p ↦ absurd (found (count-find (on isFlagged) (placed l i y) idleLane p))
             | no p ↦ omega arith
           ]
 
@@ -149,17 +149,17 @@ module _ (l : Line) (F : Facts l) (i : ℕ) (o y : Phase) (k : Place) (L : Leavi
           other = other;
           purpose = purposeIn (phaseAt between w);
           was = sym (other-phase l i w y other) ∙ waits;
-          nearer = λ j a b c d. next .nearer j a (raised-up between between-base j ∙ ap isUp (other-phase l i j y c) ∙ b) d;
+          nearer = λ j a b c d. next .nearer j a (raised-up between between-base j ∙ ap isFlagged (other-phase l i j y c) ∙ b) d;
         }
 
     abbrev wakened : Phase
     wakened = Phase.Woken (purposeIn (phaseAt between w)) k
 
-    recounts : (p : Phase → Bool) → count (on p) (placed between w wakened) + bit (p (Phase.Waiting (purposeIn (phaseAt between w)))) ≡ count (on p) (placed l i y) + bit (p wakened)
+    recounts : (p : Phase → Bool) → countPass (on p) (placed between w wakened) + bit (p (Phase.Waiting (purposeIn (phaseAt between w)))) ≡ countPass (on p) (placed l i y) + bit (p wakened)
     recounts p = recount between between-base p w (Phase.Waiting (purposeIn (phaseAt between w))) wakened (next .inside) waits
 
-    some-up : 0 < count (on isUp) (placed l i y)
-    some-up = count-pos (on isUp) (placed l i y) w idleLane inside-lanes (rw waits)
+    some-up : 0 < countPass (on isFlagged) (placed l i y)
+    some-up = count-pos (on isFlagged) (placed l i y) w idleLane inside-lanes (rw waits)
 
     woken-facts : Facts (stored between w wakened k (set (l .flag) i 0))
     woken-facts =
@@ -167,7 +167,7 @@ module _ (l : Line) (F : Facts l) (i : ℕ) (o y : Phase) (k : Place) (L : Leavi
           base = store-base between between-base w wakened k (set (l .flag) i 0) (next .inside) (omega arith) (flags-same between between-base w wakened (rw waits)) refl (λ j n. refl);
           turn =
               record {
-                one = omega (arith, recounts hasTurn, recounts isUp, turn-none, some-up);
+                one = omega (arith, recounts hasTurn, recounts isFlagged, turn-none, some-up);
                 values = all-set (on (valueOk k)) (placed l i y) w (lane wakened) values-none (eq-eqb (k .0) (k .0) refl);
               };
           gathering = λ g. absurd (omega (arith, recounts isGathered, gathered-none));
@@ -185,9 +185,9 @@ module _ (l : Line) (F : Facts l) (i : ℕ) (o y : Phase) (k : Place) (L : Leavi
 
 module _ (l : Line) (F : Facts l) (i : ℕ) (o y : Phase) (k : Place) (L : Leaving l i o y k) where
   -- where nobody is woken no other lane is up
-  pub alone : nextOf nextLane (lowered l i y k) i ≡ Wakes.None → (j : ℕ) → j < l .lanes → j ≢ i → isUp (phaseAt l j) ≡ true → ⊥
+  pub alone : nextOf nextLane (lowered l i y k) i ≡ Wakes.None → (j : ℕ) → j < l .lanes → j ≢ i → isFlagged (phaseAt l j) ≡ true → ⊥
   alone q j h n u =
-      both (raised-up (lowered l i y k) (between-base l F i o y k L) j ∙ ap isUp (other-phase l i j y n) ∙ u)
+      both (raised-up (lowered l i y k) (between-base l F i o y k L) j ∙ ap isFlagged (other-phase l i j y n) ∙ u)
       (next-none (l .lanes) (set (l .flag) i 0) i (L .inside) (own-down l F i o y k L) q j h)
 
   -- the lane that is woken has its wake under way, with the pointer that the release leaves

@@ -10,7 +10,7 @@ use lib.ListN.{getD, length, length-set, set}
 use lib.Seq.{getD-set-other, getD-set-same, map-set-same}
 use lib.Dec.{leb}
 use borrow.Author.Tests.{le-leb, leb-true}
-use Rattle.lists.specs.Lists.{all, bit, count, every, implies}
+use Rattle.lists.specs.Lists.{allPass, bit, countPass, every, implies}
 use Rattle.lists.proofs.Tests.{every-nth, implies-from, implies-use}
 use Rattle.lists.proofs.Counts.{all-count, all-getD, all-mono, all-set, count-four, count-set, count-split, map-set}
 use Rattle.view.specs.View.{fits}
@@ -18,9 +18,9 @@ use Rattle.view.specs.declared.Place.{Place}
 use Rattle.line.specs.declared.Phase.{Phase}
 use Rattle.line.specs.declared.Lane.{Lane}
 use Rattle.line.specs.declared.Line.{Line}
-use Rattle.line.specs.Line.{flagFor, idleLane, isBusy, isGathered, isIdle, isIdleOrGathered, isWriting, lane, leftIn, on, phaseAt, placeIn}
+use Rattle.line.specs.Line.{flagFor, idleLane, isBusy, isFlagged, isGathered, isIdle, isIdleOrGathered, isWriting, lane, leftIn, on, phaseAt, placeIn}
 use Rattle.line.specs.Sound.{apart, regionEnd, regionOk}
-use Rattle.line.proofs.Phases.{apart-sym, isUp, phase-kinds, ready-kinds}
+use Rattle.line.proofs.Phases.{apart-sym, phase-kinds, ready-kinds}
 use Rattle.line.proofs.Facts.{Base, Gathering}
 use Rattle.steps.specs.State.{withPointer}
 
@@ -56,7 +56,7 @@ module _ (l : Line) (B : Base l) where
   region-at i = all-getD (on (regionOk l)) (l .lane) i idleLane (B .regions) refl
 
   -- a store changes each count by the phase that goes and the one that comes
-  pub recount : (p : Phase → Bool) (i : ℕ) (o y : Phase) → i < l .lanes → phaseAt l i ≡ o → count (on p) (placed l i y) + bit (p o) ≡ count (on p) (l .lane) + bit (p y)
+  pub recount : (p : Phase → Bool) (i : ℕ) (o y : Phase) → i < l .lanes → phaseAt l i ≡ o → countPass (on p) (placed l i y) + bit (p o) ≡ countPass (on p) (l .lane) + bit (p y)
   recount p i o y h e = rw e at (count-set (on p) (l .lane) i (lane y) idleLane (short i h))
 
   pub store-base : (i : ℕ) (y : Phase) (k : Place) (f : List ℕ) → i < l .lanes → l .pointer .0 ≤ k .0 → f ≡ map (on flagFor) (placed l i y)
@@ -90,14 +90,14 @@ module _ (l : Line) (B : Base l) where
   flags-same i y e = B .flags ∙ sym (map-set-same (on flagFor) (l .lane) i (lane y) idleLane e)
 
 -- ---- counts of a sound line's lanes
-pub kinds-count : (ls : List Lane) → count (on isIdle) ls + count (on isGathered) ls + count (on isUp) ls + count (on isBusy) ls ≤ length ls
-kinds-count ls = count-four (on isIdle) (on isGathered) (on isUp) (on isBusy) (λ x. phase-kinds (x .phase)) ls
+pub kinds-count : (ls : List Lane) → countPass (on isIdle) ls + countPass (on isGathered) ls + countPass (on isFlagged) ls + countPass (on isBusy) ls ≤ length ls
+kinds-count ls = count-four (on isIdle) (on isGathered) (on isFlagged) (on isBusy) (λ x. phase-kinds (x .phase)) ls
 
 -- lanes that are all idle or gathered
-pub ready-count : (ls : List Lane) → all (on isIdleOrGathered) ls ≡ true → count (on isIdle) ls + count (on isGathered) ls ≡ length ls
+pub ready-count : (ls : List Lane) → allPass (on isIdleOrGathered) ls ≡ true → countPass (on isIdle) ls + countPass (on isGathered) ls ≡ length ls
 ready-count ls e =
     sym (count-split (on isIdleOrGathered) (on isIdle) (on isGathered) (λ x. ready-kinds (x .phase)) ls) ∙ all-count (on isIdleOrGathered) ls e
 
 -- where a lane is gathered, idle and gathered lanes are all there are
-pub ready-length : (l : Line) → Gathering l → count (on isIdle) (l .lane) + count (on isGathered) (l .lane) ≡ length (l .lane)
+pub ready-length : (l : Line) → Gathering l → countPass (on isIdle) (l .lane) + countPass (on isGathered) (l .lane) ≡ length (l .lane)
 ready-length l g = ready-count (l .lane) (g .ready)

@@ -6,7 +6,7 @@ use lib.ListN.{drop, replicate, set, take}
 use lib.Seq.{sets}
 use lib.IntN.{ℤ, pos, negsuc, _+ℤ_}
 use lib.Dec.{leb, eqb}
-use Rattle.lists.specs.Lists.{all, count}
+use Rattle.lists.specs.Lists.{allPass, countPass}
 use Rattle.view.specs.View.{endOfBook, place, plainView, positionOf, recordEnd}
 use Rattle.view.specs.declared.Place.{Place}
 use Rattle.view.specs.declared.View.{View}
@@ -15,7 +15,7 @@ use Rattle.line.specs.declared.Phase.{Phase}
 use Rattle.line.specs.declared.Lane.{Lane}
 use Rattle.line.specs.declared.Line.{Line}
 use Rattle.limits.specs.Limits.{mostLanes}
-use Rattle.line.specs.Line.{countIn, idleLane, isGathered, lane, on, phaseAt, placeIn, purposeIn}
+use Rattle.line.specs.Line.{countIn, idleLane, isGathered, isReading, isWaiting, isWriting, lane, leftIn, on, phaseAt, placeIn, purposeIn}
 use Rattle.line.specs.Sound.{gatheredTotal}
 use Rattle.waitlist.specs.declared.Wakes.{Wakes}
 use Rattle.event.specs.BigEndian.{bigEndian, numberOf}
@@ -50,7 +50,7 @@ purposeOf (suc (suc k)) = Purpose.WholeBook
 
 -- all flags but lane i's are 0; those past N are 0 on a sound line
 abbrev pub othersDown : Line → ℕ → Bool
-othersDown l i = all (eqb 0) (set (l .flag) i 0)
+othersDown l i = allPass (eqb 0) (set (l .flag) i 0)
 
 -- lane i gets its flag up and this phase
 abbrev pub raisedAs : Line → ℕ → Phase → Line
@@ -67,15 +67,9 @@ abbrev pub receiveStep : State → ℕ → Phase → Result
 receiveStep x i p = leaves (Answer.Holds (placeIn p)) (withPhase (x .line) i (Phase.Holding (purposeIn p) (placeIn p))) (x .book)
 
 -- ---- a release, of 04 and 09: the flag drops, and "the next lane is woken with the new pointer"
--- a waiting lane that is woken with a pointer value
+-- a waiting lane that is woken with a pointer value; another as it is
 abbrev pub woken : Place → Phase → Phase
-woken v Phase.Idle = Phase.Idle
-woken v (Phase.Waiting p) = Phase.Woken p v
-woken v (Phase.Woken p w) = Phase.Woken p w
-woken v (Phase.Holding p w) = Phase.Holding p w
-woken v (Phase.BusyWriting left next) = Phase.BusyWriting left next
-woken v (Phase.BusyReading left next) = Phase.BusyReading left next
-woken v (Phase.Gathered n) = Phase.Gathered n
+woken v x = cond (isWaiting x) (Phase.Woken (purposeIn x) v) x
 
 abbrev pub wake : Line → Wakes → Line
 wake l (Wakes.Lane w) = withPhase l w (woken (l .pointer) (phaseAt l w))
@@ -122,15 +116,11 @@ bookWith x k content = sets (x .book) (positionOf (x .line .view) k .0) (bigEndi
 abbrev pub grown : Line → Place → Line
 grown l k = withSize l (max (l .size) (recordEnd (l .view) k))
 
--- a busy lane with one record used up: "after its last it is idle"
+-- a busy lane with one record used up: "after its last it is idle"; another as it is
 abbrev pub oneLess : Phase → Phase
-oneLess Phase.Idle = Phase.Idle
-oneLess (Phase.Waiting p) = Phase.Waiting p
-oneLess (Phase.Woken p v) = Phase.Woken p v
-oneLess (Phase.Holding p v) = Phase.Holding p v
-oneLess (Phase.BusyWriting left next) = writing (left - 1) (place (next .0 + 1))
-oneLess (Phase.BusyReading left next) = reading (left - 1) (place (next .0 + 1))
-oneLess (Phase.Gathered n) = Phase.Gathered n
+oneLess x =
+    cond (isWriting x) (writing (leftIn x - 1) (place (placeIn x .0 + 1)))
+    (cond (isReading x) (reading (leftIn x - 1) (place (placeIn x .0 + 1))) x)
 
 abbrev pub writeStep : State → ℕ → ℕ → Phase → Result
 writeStep x i content p =
@@ -164,15 +154,9 @@ freeStep search x i = leaves (Answer.Freed (nextOf search (freed (x .line) i) i)
 abbrev pub entered : Line → ℕ → ℕ → List Lane
 entered l i c = set (l .lane) i (lane (Phase.Gathered c))
 
--- "lane r gets pointer + the counts of lanes below r, as a busy writer (idle if 0)"
+-- "lane r gets pointer + the counts of lanes below r, as a busy writer (idle if 0)"; one that is not gathered stays as it is
 abbrev pub startedAt : ℕ → Phase → Phase
-startedAt k Phase.Idle = Phase.Idle
-startedAt k (Phase.Waiting p) = Phase.Waiting p
-startedAt k (Phase.Woken p v) = Phase.Woken p v
-startedAt k (Phase.Holding p v) = Phase.Holding p v
-startedAt k (Phase.BusyWriting left next) = Phase.BusyWriting left next
-startedAt k (Phase.BusyReading left next) = Phase.BusyReading left next
-startedAt k (Phase.Gathered n) = writing n (place k)
+startedAt k x = cond (isGathered x) (writing (countIn x) (place k)) x
 
 unfoldable pub started : ℕ → List Lane → List Lane
 started k [] = []
@@ -180,7 +164,7 @@ started k (l ∷ ls) = lane (startedAt k (l .phase)) ∷ started (k + countIn (l
 
 -- "When all N are in": the ordered call is complete
 abbrev pub allEntered : Line → List Lane → Bool
-allEntered l lanes = eqb (count (on isGathered) lanes) (l .lanes)
+allEntered l lanes = eqb (countPass (on isGathered) lanes) (l .lanes)
 
 abbrev pub ordered : State → List Lane → Result
 ordered x lanes =

@@ -6,7 +6,7 @@ use lib.ListN.{drop, getD, length}
 use lib.IntN.{ℤ, pos, negsuc}
 use lib.Dec.{leb, ltb, eqb}
 use Rattle.limits.specs.Limits.{leastCapacity, mostCapacity, mostLanes, mostPointer}
-use Rattle.lists.specs.Lists.{all, any}
+use Rattle.lists.specs.Lists.{allPass, somePass}
 use Rattle.view.specs.View.{block, fits, place, viewOk}
 use Rattle.view.specs.declared.Block.{Block}
 use Rattle.view.specs.declared.Place.{Place}
@@ -107,11 +107,11 @@ viewBroken = reason 10 (λ x e. is 0x0B e && not (viewOk (x .line .capacity) (vi
 -- "11. For 0B or 0C some lane is not idle; for 0A some lane is neither idle nor gathered"; it looks at all entries, as 12 does: those past N are idle
 abbrev pub lanesNotReady : Reason
 lanesNotReady =
-    reason 11 (λ x e. ((is 0x0B e || is 0x0C e) && not (all (on isIdle) (x .line .lane))) || (is 0x0A e && not (all (on isIdleOrGathered) (x .line .lane))))
+    reason 11 (λ x e. ((is 0x0B e || is 0x0C e) && not (allPass (on isIdle) (x .line .lane))) || (is 0x0A e && not (allPass (on isIdleOrGathered) (x .line .lane))))
 
 -- "12. 02 comes while a lane is gathered"
 abbrev pub someGathered : Reason
-someGathered = reason 12 (λ x e. is 0x02 e && any (on isGathered) (x .line .lane))
+someGathered = reason 12 (λ x e. is 0x02 e && somePass (on isGathered) (x .line .lane))
 
 -- "14. 03 comes to a waiting lane, with no wake yet"
 abbrev pub noWakeYet : Reason
@@ -198,4 +198,4 @@ before k (q ∷ qs) = cond (eqb (q .number) k) [] (q ∷ before k qs)
 -- no two have one number
 abbrev pub differIn : List Reason → Bool
 differIn [] = true
-differIn (q ∷ qs) = all (λ (r : Reason). not (eqb (q .number) (r .number))) qs && differIn qs
+differIn (q ∷ qs) = allPass (λ (r : Reason). not (eqb (q .number) (r .number))) qs && differIn qs

@@ -19,7 +19,7 @@ use Rattle.steps.specs.State.{Result, State}
 use Rattle.steps.specs.Refusals.{field, is, laneOf, namesLane}
 use Rattle.steps.specs.Step.{refuse, stepBy}
 use Rattle.steps.proofs.Cases.{Steps, refuses, steps}
-use Rattle.event.proofs.ByKind.{_▹_, all, by-kind, listed-or}
+use Rattle.event.proofs.ByKind.{_▹_, by-kind, listed, listed-or}
 use Rattle.trace.specs.Trace.{CallBytes, Entry, callIn, entry, saidTo}
 
 -- ---- the fields of an event that an entry shows; the others are those of the bytes
@@ -64,7 +64,7 @@ shows bytes said k t =
     ▹ (λ h. rw (byte-at bytes 0 (omega arith)))
     ▹ (λ h. refl)
     ▹ (λ h. refl)
-    ▹ all)
+    ▹ listed)
     k t
 
 -- ---- from the call to its event

@@ -4,7 +4,7 @@ use mathlib.Core.Bool.{Bool, cond, not, _&&_, _||_}
 use mathlib.Core.List.{List, [], _∷_, map}
 use lib.ListN.{drop, getD, length, take}
 use lib.Dec.{eqb, leb}
-use Rattle.lists.specs.Lists.{any}
+use Rattle.lists.specs.Lists.{somePass}
 use Rattle.event.specs.BigEndian.{numberOf}
 use Rattle.event.specs.Event.{Call, callOf}
 use Rattle.steps.specs.Answer.{Said, saidBy}
@@ -74,7 +74,7 @@ abbrev pub wokenBy : Entry → List ℕ
 wokenBy e = cond (isAccepted 0x04 e) (drop 2 (e .said .values)) (cond (isAccepted 0x09 e) (e .said .values) [])
 
 abbrev pub wakes : ℕ → Entry → Bool
-wakes i e = any (eqb i) (wokenBy e)
+wakes i e = somePass (eqb i) (wokenBy e)
 
 -- an opening, a change of view or a seek
 abbrev pub isReset : Entry → Bool

@@ -3,7 +3,7 @@ use Prim.Native.Nat.{_≤_}
 use mathlib.Core.Path.{_≡_, refl}
 use mathlib.Core.List.{[], _∷_, _++_, map}
 use native.Mathlib.Omega.{arith}
-use Rattle.lists.specs.Lists.{count}
+use Rattle.lists.specs.Lists.{countPass}
 use Rattle.view.specs.View.{blockRecord, inOrder, positionOf, viewOk}
 use Rattle.line.specs.Sound.{sound}
 use Rattle.waitlist.specs.Distance.{distance}
@@ -21,11 +21,11 @@ pub long-distance : distance 64 0 63 ≡ 63
 unfolding distance
 long-distance = refl
 
-pub long-not-yet : (count isRelease (entriesAfter nextLane book64 longEarly long62) ∷ count (wakes 63) (entriesAfter nextLane book64 longEarly long62) ∷ []) ≡ 62 ∷ 0 ∷ []
+pub long-not-yet : (countPass isRelease (entriesAfter nextLane book64 longEarly long62) ∷ countPass (wakes 63) (entriesAfter nextLane book64 longEarly long62) ∷ []) ≡ 62 ∷ 0 ∷ []
 unfolding blockRecord inOrder positionOf viewOk sound firstRaised nextLane bigEndian numberOf fieldsIn started stepBy afterBy entries wantsFrom passesFrom
 long-not-yet = refl
 
-pub long-woken : (count isRelease (entriesAfter nextLane book64 longEarly long63) ∷ count (wakes 63) (entriesAfter nextLane book64 longEarly long63) ∷ []) ≡ 63 ∷ 1 ∷ []
+pub long-woken : (countPass isRelease (entriesAfter nextLane book64 longEarly long63) ∷ countPass (wakes 63) (entriesAfter nextLane book64 longEarly long63) ∷ []) ≡ 63 ∷ 1 ∷ []
 unfolding blockRecord inOrder positionOf viewOk sound firstRaised nextLane bigEndian numberOf fieldsIn started stepBy afterBy entries wantsFrom passesFrom
 long-woken = refl
 

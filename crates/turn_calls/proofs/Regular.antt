@@ -6,7 +6,7 @@ use mathlib.Core.List.{List}
 use lib.Dec.{eqb, ltb}
 use lib.ListN.{set}
 use borrow.Author.Tests.{not-false}
-use Rattle.lists.specs.Lists.{all}
+use Rattle.lists.specs.Lists.{allPass}
 use Rattle.view.specs.View.{fits}
 use Rattle.view.specs.declared.Place.{Place}
 use Rattle.view.specs.declared.View.{View}
@@ -49,7 +49,7 @@ module _ (s : Seen) (lanes-fit : s .lanes ≤ mostLanes) (i : ℕ) where
       (λ _. regular-refused s 12 (s .gathering)
       (λ _. regular-refused s 13 (not (isIdle (s .phase)))
       (λ e. let apart = idle-apart (s .phase) (not-false _ e) in
-      regular-by s (all (eqb 0) (set flags i 0)) (λ _. record { wakes = refl; gathered = apart }) (λ _. record { wakes = refl; gathered = apart }))))
+      regular-by s (allPass (eqb 0) (set flags i 0)) (λ _. record { wakes = refl; gathered = apart }) (λ _. record { wakes = refl; gathered = apart }))))
 
   receive-by : (x : Phase) → x ≡ s .phase → Regular s (receivedBy s x)
   receive-by Phase.Idle e = refused-13

@@ -6,7 +6,7 @@ use mathlib.Core.List.{List}
 use lib.Dec.{eqb, ltb}
 use lib.ListN.{length, set}
 use lib.Seq.{set-getD}
-use Rattle.lists.specs.Lists.{all, any}
+use Rattle.lists.specs.Lists.{allPass, somePass}
 use Rattle.view.specs.View.{fits}
 use Rattle.view.specs.declared.Place.{Place}
 use Rattle.line.specs.declared.Line.{Line}
@@ -45,15 +45,15 @@ module _ (l : Line) (book : List ℕ) (lanes-fit : l .lanes ≤ mostLanes) (ok :
   own = seenOf l i
 
   -- ---- 02
-  raised : (p : Purpose) → Gives l (unchanged book) i (wantStep (stateOf l book) i p) (wanted own (all (eqb 0) (set (l .flag) i 0)) p)
-  raised p = either l book (unchanged book) (λ k. refl) i (all (eqb 0) (set (l .flag) i 0)) {c = holdsNow own p} {d = waits own p} (record { is = refl }) (record { is = refl })
+  raised : (p : Purpose) → Gives l (unchanged book) i (wantStep (stateOf l book) i p) (wanted own (allPass (eqb 0) (set (l .flag) i 0)) p)
+  raised p = either l book (unchanged book) (λ k. refl) i (allPass (eqb 0) (set (l .flag) i 0)) {c = holdsNow own p} {d = waits own p} (record { is = refl }) (record { is = refl })
 
   pub want-step : (purpose : ℕ) → callEvent (stateOf l book) (Event.Want i purpose) ≡ changed l (entryOf i) (atLane seen i (wantChange seen (l .flag) i purpose)) book
   want-step purpose =
       want-chain nextLane (stateOf l book) i purpose
       ∙ lane-step l book (unchanged book) (λ k. refl) lanes-fit ok i (λ (j : ℕ). wantChange (seenOf l j) (l .flag) i purpose) _
       (λ h. guarded l book (unchanged book) (λ k. refl) i 9 (ltb 2 purpose)
-      (guarded l book (unchanged book) (λ k. refl) i 12 (any (on isGathered) (l .lane))
+      (guarded l book (unchanged book) (λ k. refl) i 12 (somePass (on isGathered) (l .lane))
       (guarded l book (unchanged book) (λ k. refl) i 13 (not (isIdle (phaseAt l i))) (raised (purposeOf purpose)))))
       .is
 

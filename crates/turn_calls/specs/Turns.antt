@@ -4,14 +4,14 @@ use mathlib.Core.Bool.{Bool, cond, not}
 use mathlib.Core.List.{List}
 use lib.Dec.{eqb, ltb}
 use lib.ListN.{set}
-use Rattle.lists.specs.Lists.{all}
+use Rattle.lists.specs.Lists.{allPass}
 use Rattle.view.specs.View.{fits, place}
 use Rattle.view.specs.declared.Place.{Place}
 use Rattle.view.specs.declared.View.{View}
 use Rattle.line.specs.declared.Purpose.{Purpose}
 use Rattle.line.specs.declared.Phase.{Phase}
 use Rattle.limits.specs.Limits.{mostPointer}
-use Rattle.line.specs.Line.{byPhase, holdsWhole, isIdle, placeIn, purposeIn}
+use Rattle.line.specs.Line.{holdsWhole, isHolding, isIdle, isWaiting, isWoken, placeIn, purposeIn}
 use Rattle.waitlist.specs.NextLane.{nextLane}
 use Rattle.waitlist.specs.declared.Wakes.{Wakes}
 use Rattle.steps.specs.declared.Answer.{Answer}
@@ -39,12 +39,13 @@ abbrev pub wantChange : Seen → List ℕ → ℕ → ℕ → Change
 wantChange s flags i purpose =
     cond (ltb 2 purpose) (refusedChange s 9)
     (cond (s .gathering) (refusedChange s 12)
-    (cond (not (isIdle (s .phase))) (refusedChange s 13) (wanted s (all (eqb 0) (set flags i 0)) (purposeOf purpose))))
+    (cond (not (isIdle (s .phase))) (refusedChange s 13) (wanted s (allPass (eqb 0) (set flags i 0)) (purposeOf purpose))))
 
 -- ---- 03: 14 to a waiting lane, 13 to any but a woken one
 abbrev pub receivedBy : Seen → Phase → Change
 receivedBy s x =
-    byPhase (refusedChange s 13) (refusedChange s 14) (movedTo s (Answer.Holds (placeIn x)) (Phase.Holding (purposeIn x) (placeIn x)) (s .flag)) (refusedChange s 13) (refusedChange s 13) (refusedChange s 13) (refusedChange s 13) x
+    cond (isWoken x) (movedTo s (Answer.Holds (placeIn x)) (Phase.Holding (purposeIn x) (placeIn x)) (s .flag))
+    (cond (isWaiting x) (refusedChange s 14) (refusedChange s 13))
 
 abbrev pub receiveChange : Seen → Change
 receiveChange s = receivedBy s (s .phase)
@@ -75,8 +76,7 @@ takenBy s view flags i Purpose.WholeBook v c = refusedChange s 13
 
 -- 13 to a lane that does not hold
 abbrev pub takenFrom : Seen → View → List ℕ → ℕ → ℕ → Phase → Change
-takenFrom s view flags i c x =
-    byPhase (refusedChange s 13) (refusedChange s 13) (refusedChange s 13) (takenBy s view flags i (purposeIn x) (placeIn x) c) (refusedChange s 13) (refusedChange s 13) (refusedChange s 13) x
+takenFrom s view flags i c x = cond (isHolding x) (takenBy s view flags i (purposeIn x) (placeIn x) c) (refusedChange s 13)
 
 abbrev pub takeChange : Seen → View → List ℕ → ℕ → ℕ → Change
 takeChange s view flags i c = takenFrom s view flags i c (s .phase)

@@ -9,7 +9,7 @@ use native.Mathlib.Nat.{div-add-mod', mod-lt, mul-le-mul-left, mul-le-mul-right,
 use lib.ListN.{length, take, drop}
 use lib.Dec.{leb, eqb}
 use borrow.Author.Tests.{leb-true, eqb-true, le-leb, lt-ltb, le-ltb}
-use Rattle.lists.specs.Lists.{all, sumOf}
+use Rattle.lists.specs.Lists.{allPass, sumOf}
 use Rattle.lists.proofs.Tests.{and-left, and-right, clash, every-nth}
 use Rattle.lists.proofs.Parts.{below-or-not}
 use Rattle.view.specs.declared.Block.{Block}
@@ -103,7 +103,7 @@ viewed capacity v h len =
     ∷ leb 1 (v .used)
     ∷ leb (v .used) 8
     ∷ inOrder (v .extent) 0 (usedBlocks v)
-    ∷ all isUnused (unusedBlocks v)
+    ∷ allPass isUnused (unusedBlocks v)
     ∷ [] in
     let order = every-nth tests 5 h in
     let used = leb-true 1 (v .used) (every-nth tests 3 h) in
@@ -188,15 +188,15 @@ fits-last v capacity k zero h = absurd (omega arith)
 fits-last v capacity k (suc t) h = let e : suc t - 1 ≡ t = omega arith in rw e
 
 -- ---- the plain view meets the rules at every capacity
-plain-blocks : (bs : List Block) → isPlainBlocks bs ≡ true → (inOrder 1 0 (take 1 bs) ≡ true) × (all isUnused (drop 1 bs) ≡ true)
+plain-blocks : (bs : List Block) → isPlainBlocks bs ≡ true → (inOrder 1 0 (take 1 bs) ≡ true) × (allPass isUnused (drop 1 bs) ≡ true)
 unfolding inOrder
 plain-blocks [] e = clash (sym e)
 plain-blocks (b ∷ bs) e =
     let first = eqb (b .start) 0 && eqb (b .length) 1 in
-    let both = and-left first (all isUnused bs) e in
+    let both = and-left first (allPass isUnused bs) e in
     let start = eqb-true (b .start) 0 (and-left (eqb (b .start) 0) (eqb (b .length) 1) both) in
     let one = eqb-true (b .length) 1 (and-right (eqb (b .start) 0) (eqb (b .length) 1) both) in
-    (rw (start, one), and-right first (all isUnused bs) e)
+    (rw (start, one), and-right first (allPass isUnused bs) e)
 
 pub isPlain-ok : (capacity : ℕ) (v : View) → isPlain v ≡ true → viewOk capacity v ≡ true
 unfolding viewOk

@@ -10,7 +10,7 @@ use lib.ListN.{length, getD, take, drop, drop-of-length-le, length-take}
 use lib.Seq.{take-all}
 use lib.Dec.{leb}
 use borrow.Author.Tests.{le-leb, lt-leb, eq-eqb, ne-eqb, lt-ltb, le-ltb}
-use Rattle.lists.specs.Lists.{all}
+use Rattle.lists.specs.Lists.{allPass}
 use Rattle.lists.proofs.Parts.{below-or-not, drop-more, drop-take-more}
 use Rattle.view.proofs.Laws.{lengths}
 use Rattle.view.specs.declared.Block.{Block}
@@ -63,13 +63,13 @@ unfolding blockRecord
 record-end bs i n q h = rw (none-left bs i n h)
 
 module _ (bs : List Block) (i : ℕ) (more : i < length bs) where
-  pub unused-start : ((blockAt bs i) .start ≡ 0 → ⊥) → all isUnused (drop i bs) ≡ false
+  pub unused-start : ((blockAt bs i) .start ≡ 0 → ⊥) → allPass isUnused (drop i bs) ≡ false
   unused-start h = rw (drop-more bs i (block 0 0) more, ne-eqb _ _ h)
 
-  pub unused-length : (blockAt bs i) .start ≡ 0 → ((blockAt bs i) .length ≡ 0 → ⊥) → all isUnused (drop i bs) ≡ false
+  pub unused-length : (blockAt bs i) .start ≡ 0 → ((blockAt bs i) .length ≡ 0 → ⊥) → allPass isUnused (drop i bs) ≡ false
   unused-length s h = rw (drop-more bs i (block 0 0) more, eq-eqb _ _ s, ne-eqb _ _ h)
 
-  pub unused-more : (blockAt bs i) .start ≡ 0 → (blockAt bs i) .length ≡ 0 → all isUnused (drop i bs) ≡ all isUnused (drop (i + 1) bs)
+  pub unused-more : (blockAt bs i) .start ≡ 0 → (blockAt bs i) .length ≡ 0 → allPass isUnused (drop i bs) ≡ allPass isUnused (drop (i + 1) bs)
   unused-more s l = rw (drop-more bs i (block 0 0) more, eq-eqb _ _ s, eq-eqb _ _ l)
 
 -- a number of blocks above 8 reaches no more than 8 do

@@ -4,7 +4,7 @@ use mathlib.Core.Bool.{Bool, true, false, cond, _&&_}
 use mathlib.Core.List.{List, [], _∷_}
 use lib.ListN.{take, drop, replicate}
 use lib.Dec.{leb, ltb, eqb}
-use Rattle.lists.specs.Lists.{all, every, sumOf}
+use Rattle.lists.specs.Lists.{allPass, every, sumOf}
 use Rattle.limits.specs.Limits.{mostBlocks, mostExtent}
 use Rattle.view.specs.declared.Block.{Block}
 use Rattle.view.specs.declared.Place.{Place}
@@ -30,7 +30,7 @@ isUnused b = eqb (b .start) 0 && eqb (b .length) 0
 -- field by field, one block (0, 1) and then unused ones
 abbrev pub isPlainBlocks : List Block → Bool
 isPlainBlocks [] = false
-isPlainBlocks (b ∷ bs) = eqb (b .start) 0 && eqb (b .length) 1 && all isUnused bs
+isPlainBlocks (b ∷ bs) = eqb (b .start) 0 && eqb (b .length) 1 && allPass isUnused bs
 
 abbrev pub isPlain : View → Bool
 isPlain v = every (eqb (v .displacement) 0 ∷ eqb (v .extent) 1 ∷ eqb (v .used) 1 ∷ isPlainBlocks (v .block) ∷ [])
@@ -57,7 +57,7 @@ viewOk capacity v =
     ∷ leb 1 (v .used)
     ∷ leb (v .used) mostBlocks
     ∷ inOrder (v .extent) 0 (usedBlocks v)
-    ∷ all isUnused (unusedBlocks v)
+    ∷ allPass isUnused (unusedBlocks v)
     ∷ [])
 
 -- ---- from a place to a position

@@ -3,7 +3,7 @@ ghost use mathlib.Core.Path.{_≡_};
 ghost use Prim.Native.Nat.{ℕ, _≤_, _<_, min};
 ghost use lib.ListN.{take, drop};
 ghost use Rattle.limits.specs.Limits.{mostBlocks};
-ghost use Rattle.lists.specs.Lists.{all, sumOf};
+ghost use Rattle.lists.specs.Lists.{allPass, sumOf};
 ghost use Rattle.view.specs.View.{place, isUnused, inOrder, viewOk, shown, blockRecord, positionOf, fits, endOfBook};
 use limits::MOST_BLOCKS;
 use limits::MOST_EXTENT;
@@ -203,7 +203,7 @@ fn in_order(block: [Block; MOST_BLOCKS], count: usize, extent: u16) -> bool
 
 // Whether the blocks from an index on are zero.
 fn all_unused(block: [Block; MOST_BLOCKS], from: usize) -> bool
-    ensures { λ r. ⌜ r ≡ all isUnused (drop from block) ⌝ }
+    ensures { λ r. ⌜ r ≡ allPass isUnused (drop from block) ⌝ }
 {
     let mut i = from;
     while i < MOST_BLOCKS {

@@ -3,7 +3,7 @@ ghost use Prim.Native.Nat.{_+_, _-_, _≤_, min};
 ghost use mathlib.Core.Path.{_≡_};
 ghost use lib.Dec.{eqb};
 ghost use lib.ListN.{getD, set};
-ghost use Rattle.lists.specs.Lists.{all};
+ghost use Rattle.lists.specs.Lists.{allPass};
 ghost use Rattle.waitlist.specs.NextLane.{firstRaised, nextLane};
 use limits::MOST_LANES;
 
@@ -42,7 +42,7 @@ fn flag_but(flags: &[u8], i: usize, own: usize) -> u8
 
 // Whether all flags of a row but one are 0.
 fn down_but(flags: &[u8], own: usize) -> bool
-    ensures { λ r. ⌜ r ≡ all (eqb 0) (set (now (flags .entry)) own 0) ⌝ }
+    ensures { λ r. ⌜ r ≡ allPass (eqb 0) (set (now (flags .entry)) own 0) ⌝ }
 {
     let mut i: usize = 0;
     while i < flags.len() {
@@ -56,7 +56,7 @@ fn down_but(flags: &[u8], own: usize) -> bool
 
 // Whether all flags but the lane's own are 0.
 pub fn others_down(flags: &[u8; MOST_LANES], lane: u8) -> bool
-    ensures { λ r. ⌜ r ≡ all (eqb 0) (set (now (flags .entry)) lane 0) ⌝ }
+    ensures { λ r. ⌜ r ≡ allPass (eqb 0) (set (now (flags .entry)) lane 0) ⌝ }
 {
     down_but(flags, index(lane))
 }

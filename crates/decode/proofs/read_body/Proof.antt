@@ -1,5 +1,5 @@
 -- `decode::read_body` meets its contract: an arm for each kind, and one for all others.
-use Rattle.event.proofs.ByKind.{_▹_, all}
+use Rattle.event.proofs.ByKind.{_▹_, listed}
 use Rattle.decode.proofs.Bodies.{body-unlisted, none-listed}
 use borrow.Author.Needs.{needs}
 use Rattle.decode.proofs.read_body.Statement.{statement}
@@ -90,7 +90,7 @@ returns-13 c = let others = c .match .rest in
     let but-3 = but-4 .0 in
     let but-2 = but-3 .0 in
     let but-1 = but-2 .0 in
-    body-unlisted _ _ _ (none-listed _ (but-1 .1 ▹ but-2 .1 ▹ but-3 .1 ▹ but-4 .1 ▹ but-5 .1 ▹ but-6 .1 ▹ but-7 .1 ▹ but-8 .1 ▹ but-9 .1 ▹ but-10 .1 ▹ but-11 .1 ▹ others .1 ▹ all))
+    body-unlisted _ _ _ (none-listed _ (but-1 .1 ▹ but-2 .1 ▹ but-3 .1 ▹ but-4 .1 ▹ but-5 .1 ▹ but-6 .1 ▹ but-7 .1 ▹ but-8 .1 ▹ but-9 .1 ▹ but-10 .1 ▹ but-11 .1 ▹ others .1 ▹ listed))
 
 pub read-body-spec : {M : Type 1} → statement M
 read-body-spec =

@@ -1,4 +1,5 @@
 -- `event_text::put_event` meets its contract: an arm for each kind.
+use Rattle.printout.specs.Print.{words}
 use Rattle.event_text.specs.Show.{eventWords}
 use Rattle.event_text.proofs.Groups.{two-fields-at-most}
 use borrow.Author.Needs.{needs}
@@ -24,14 +25,14 @@ same-length : tie.Need-same-length
 same-length c = search needs
 
 returns : tie.Need-returns
-unfolding eventWords
+unfolding eventWords words
 returns c = rw (c .before .before .before .before .before .event .given .1) (search needs)
 
 same-length-2 : tie.Need-same-length-2
 same-length-2 c = search needs
 
 returns-2 : tie.Need-returns-2
-unfolding eventWords
+unfolding eventWords words
 returns-2 c = rw (c .before .before .before .before .before .event2 .given .1) (search needs)
 
 same-length-3 : tie.Need-same-length-3

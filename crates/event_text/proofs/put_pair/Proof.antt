@@ -2,6 +2,7 @@
 use mir.Facts.{toZ-ofZ}
 use mir.Syntax.{w32}
 use mir.Val.{SFits}
+use Rattle.printout.specs.Print.{words}
 use Rattle.event_text.specs.Show.{eventWords}
 use Rattle.event_text.proofs.Groups.{one-field}
 use borrow.Author.Needs.{needs}
@@ -105,49 +106,49 @@ same-length : tie.Need-same-length
 same-length c = search needs
 
 returns : tie.Need-returns
-unfolding eventWords
+unfolding eventWords words
 returns c = rw (c .before .before .before .before .before .before .before .event .given .1) (search needs)
 
 same-length-2 : tie.Need-same-length-2
 same-length-2 c = search needs
 
 returns-2 : tie.Need-returns-2
-unfolding eventWords
+unfolding eventWords words
 returns-2 c = rw (c .before .before .before .before .before .before .before .event2 .given .1) (search needs)
 
 same-length-3 : tie.Need-same-length-3
 same-length-3 c = search needs
 
 returns-3 : tie.Need-returns-3
-unfolding eventWords
+unfolding eventWords words
 returns-3 c = rw (c .before .before .before .before .before .before .before .event3 .given .1) (search needs)
 
 same-length-4 : tie.Need-same-length-4
 same-length-4 c = search needs
 
 returns-4 : tie.Need-returns-4
-unfolding eventWords
+unfolding eventWords words
 returns-4 c = rw (c .before .before .before .before .before .event4 .given .1) (search needs)
 
 same-length-5 : tie.Need-same-length-5
 same-length-5 c = search needs
 
 returns-5 : tie.Need-returns-5
-unfolding eventWords
+unfolding eventWords words
 returns-5 c = rw (c .before .before .before .before .before .before .before .before .event5 .given .1) (search needs)
 
 same-length-6 : tie.Need-same-length-6
 same-length-6 c = search needs
 
 returns-6 : tie.Need-returns-6
-unfolding eventWords
+unfolding eventWords words
 returns-6 c = rw (c .before .before .before .before .before .before .before .event6 .given .1) (search needs)
 
 same-length-7 : tie.Need-same-length-7
 same-length-7 c = search needs
 
 returns-7 : tie.Need-returns-7
-unfolding eventWords
+unfolding eventWords words
 returns-7 c =
     let arm = c .before .before .before .before .before .before in
     let fits : SFits w32 (arm .event7 .given .0 .1 .0) = record { sfits = c .before .before .before .before .before .known-told7 .given .1 .0 .1 } in

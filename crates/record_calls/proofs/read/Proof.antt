@@ -46,7 +46,7 @@ returns c =
 returns-2 : tie.Need-returns-2
 returns-2 c =
     let s = c .before .before .before .args .seen in
-    c .refuse .ensures ∙ sym (not-reading (refusedChange s 13) _ (s .phase) (c .before .match .keys2))
+    rw (not-reading (s .phase) (c .before .match .keys2)) (c .refuse .ensures)
 
 pub read-spec : {M : Type 1} → statement M
 read-spec =

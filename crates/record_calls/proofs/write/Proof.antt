@@ -50,7 +50,7 @@ returns c =
 returns-2 : tie.Need-returns-2
 returns-2 c =
     let s = c .before .before .args .seen in
-    c .refuse .ensures ∙ sym (not-writing (refusedChange s 13) _ (s .phase) (c .before .match .keys2))
+    rw (not-writing (s .phase) (c .before .match .keys2)) (c .refuse .ensures)
 
 pub write-spec : {M : Type 1} → statement M
 write-spec =

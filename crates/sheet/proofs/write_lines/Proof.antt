@@ -29,8 +29,8 @@ write-last-requires c κs = search needs
 returns : tie.Need-returns Inv-loop μ-loop
 returns c = search needs
 
-write-event-requires : tie.Need-write-event-requires Inv-loop μ-loop
-write-event-requires c κs = search needs
+show-event-requires : tie.Need-show-event-requires Inv-loop μ-loop
+show-event-requires c κs = search needs
 
 returns-2 : tie.Need-returns-2 Inv-loop μ-loop
 returns-2 c = search needs
@@ -76,7 +76,7 @@ write-lines-spec =
     enum-known-reading
     write-last-requires
     returns
-    write-event-requires
+    show-event-requires
     returns-2
     add-count
     loop-less

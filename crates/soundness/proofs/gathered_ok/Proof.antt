@@ -5,7 +5,7 @@ use Prim.Native.Nat.{_<_}
 use native.Mathlib.Omega.{arith}
 use lib.Dec.{ltb}
 use borrow.Author.Tests.{le-ltb, lt-ltb, not-false, not-true}
-use Rattle.lists.specs.Lists.{all, any, count}
+use Rattle.lists.specs.Lists.{allPass, somePass, countPass}
 use Rattle.lists.proofs.Maps.{any-count}
 use Rattle.line.specs.Line.{isGathered, isIdleOrGathered, on}
 use Rattle.line.specs.declared.Line.{Line}
@@ -16,16 +16,16 @@ use Rattle.soundness.proofs.gathered_ok.Tie as tie
 abbrev line-at : tie.Else1 → Line
 line-at c = c .before .before .before .before .before .before .args .line
 
-some-gathered : (c : tie.Else1) → any (on isGathered) (line-at c .lane) ≡ true
+some-gathered : (c : tie.Else1) → somePass (on isGathered) (line-at c .lane) ≡ true
 some-gathered c =
     let some = rw (c .before .before .tally-of .ensures) at (c .if1 .left) in
-    let positive : 0 < count (on isGathered) (line-at c .lane) = omega arith in
+    let positive : 0 < countPass (on isGathered) (line-at c .lane) = omega arith in
     any-count (on isGathered) (line-at c .lane) ∙ lt-ltb 0 _ positive
 
-settled : (c : tie.Else2) → all (on isIdleOrGathered) (line-at (c .before .before) .lane) ≡ true
+settled : (c : tie.Else2) → allPass (on isIdleOrGathered) (line-at (c .before .before) .lane) ≡ true
 settled c = sym (c .before .all-meet .ensures) ∙ not-false _ (c .if2 .left)
 
-not-all : (c : tie.Else3) → ltb (count (on isGathered) (line-at (c .before .before .before .before .before) .lane)) (line-at (c .before .before .before .before .before) .lanes) ≡ true
+not-all : (c : tie.Else3) → ltb (countPass (on isGathered) (line-at (c .before .before .before .before .before) .lane)) (line-at (c .before .before .before .before .before) .lanes) ≡ true
 not-all c =
     let e1 = c .before .before .before .before .before in
     let fewer = rw (c .before .before .index .ensures, e1 .before .before .tally-of .ensures) at (c .if3 .left) in

@@ -5,7 +5,7 @@ use Prim.Native.Nat.{_<_}
 use native.Mathlib.Omega.{arith}
 use lib.Dec.{eqb}
 use borrow.Author.Tests.{eq-eqb, lt-ltb, ne-eqb}
-use Rattle.lists.specs.Lists.{any, count}
+use Rattle.lists.specs.Lists.{somePass, countPass}
 use Rattle.line.specs.Line.{on}
 use Rattle.line.specs.declared.Line.{Line}
 use Rattle.lane_tests.specs.Rules.{isFlagged}
@@ -17,10 +17,10 @@ use Rattle.soundness.proofs.turn_ok.Tie as tie
 abbrev line-at : tie.Else1 → Line
 line-at c = c .before .before .before .before .args .line
 
-flag-up : (c : tie.Else1) → any (eqb 1) (line-at c .flag) ≡ true
+flag-up : (c : tie.Else1) → somePass (eqb 1) (line-at c .flag) ≡ true
 flag-up c =
     let some = rw (c .before .before .tally-of .ensures) at (c .if1 .left) in
-    let positive : 0 < count (on isFlagged) (line-at c .lane) = omega arith in
+    let positive : 0 < countPass (on isFlagged) (line-at c .lane) = omega arith in
     raised-any (line-at c) (c .before .before .before .before .pre) ∙ lt-ltb 0 _ positive
 
 tally-of-requires : tie.Need-tally-of-requires

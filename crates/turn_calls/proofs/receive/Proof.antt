@@ -2,7 +2,7 @@
 use mathlib.Core.Path.{ap, sym, _∙_}
 use Rattle.changes.specs.Change.{refusedChange}
 use Rattle.turn_calls.specs.Turns.{receivedBy}
-use Rattle.changes.proofs.Arms.{not-woken}
+use Rattle.changes.proofs.Arms.{nor-waiting, not-woken}
 use borrow.Author.Needs.{needs}
 use Rattle.turn_calls.proofs.receive.Statement.{statement}
 use Rattle.turn_calls.proofs.receive.Tie as tie
@@ -33,7 +33,7 @@ returns-2 c =
 returns-3 : tie.Need-returns-3
 returns-3 c =
     let s = c .before .before .args .seen in
-    c .refuse2 .ensures ∙ sym (not-woken (refusedChange s 13) (refusedChange s 14) _ (s .phase) (c .before .match .keys3))
+    rw (not-woken (s .phase) (c .before .match .keys3), nor-waiting (s .phase) (c .before .match .keys3)) (c .refuse2 .ensures)
 
 pub receive-spec : {M : Type 1} → statement M
 receive-spec =

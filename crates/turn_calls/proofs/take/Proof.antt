@@ -27,7 +27,7 @@ returns c =
 returns-2 : tie.Need-returns-2
 returns-2 c =
     let s = c .before .before .args .seen in
-    c .refuse .ensures ∙ sym (not-holding (refusedChange s 13) _ (s .phase) (c .before .match .keys2))
+    rw (not-holding (s .phase) (c .before .match .keys2)) (c .refuse .ensures)
 
 pub take-spec : {M : Type 1} → statement M
 take-spec =

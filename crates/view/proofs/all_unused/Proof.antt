@@ -4,14 +4,14 @@ use mathlib.Core.Path.{_≡_, refl, sym, ap, _∙_}
 use native.Mathlib.Omega.{arith}
 use lib.ListN.{length, drop, drop-of-length-le}
 use borrow.Author.Needs.{needs}
-use Rattle.lists.specs.Lists.{all}
+use Rattle.lists.specs.Lists.{allPass}
 use Rattle.view.specs.View.{isUnused}
 use Rattle.view.proofs.Walk.{unused-start, unused-length, unused-more}
 use Rattle.view.proofs.all_unused.Statement.{statement}
 use Rattle.view.proofs.all_unused.Tie as tie
 
 abbrev Inv-loop : tie.InvT-loop
-Inv-loop from block i₀ i = all isUnused (drop i block) ≡ all isUnused (drop from block)
+Inv-loop from block i₀ i = allPass isUnused (drop i block) ≡ allPass isUnused (drop from block)
 
 abbrev μ-loop : tie.MeasureT-loop
 μ-loop from block i₀ i = 8 - i
@@ -61,7 +61,7 @@ returns-3 c =
     let lp = c .before .loop in
     let len : length (a .t1) ≡ 8 = search needs in
     let short : length (a .t1) ≤ lp .i = omega arith in
-    sym (ap (all isUnused) (drop-of-length-le (a .t1) short)) ∙ lp .inv
+    sym (ap (allPass isUnused) (drop-of-length-le (a .t1) short)) ∙ lp .inv
 
 pub all-unused-spec : {M : Type 1} → statement M
 all-unused-spec = tie.close (tie.spec Inv-loop μ-loop loop-holds mul-b array-copy-out-b returns returns-2 add-i loop-less loop-again returns-3)

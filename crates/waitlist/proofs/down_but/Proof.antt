@@ -5,14 +5,14 @@ use native.Mathlib.Omega.{arith}
 use lib.Dec.{eqb}
 use lib.ListN.{drop, length, set, length-set}
 use borrow.Author.Tests.{eq-eqb, ne-eqb}
-use Rattle.lists.specs.Lists.{all}
+use Rattle.lists.specs.Lists.{allPass}
 use Rattle.lists.proofs.Loops.{all-end, all-more, all-stop}
 use borrow.Author.Needs.{needs}
 use Rattle.waitlist.proofs.down_but.Statement.{statement}
 use Rattle.waitlist.proofs.down_but.Tie as tie
 
 abbrev Inv-loop : tie.InvT-loop
-Inv-loop flags own i₀ i = all (eqb 0) (drop i (set flags own 0)) ≡ all (eqb 0) (set flags own 0)
+Inv-loop flags own i₀ i = allPass (eqb 0) (drop i (set flags own 0)) ≡ allPass (eqb 0) (set flags own 0)
 
 abbrev μ-loop : tie.MeasureT-loop
 μ-loop flags own i₀ i = length flags - i

@@ -4,7 +4,7 @@ use Prim.Native.Nat.{_-_, _≤_, _<_}
 use native.Mathlib.Omega.{arith}
 use lib.ListN.{drop, length}
 use borrow.Author.Tests.{not-false, not-true}
-use Rattle.lists.specs.Lists.{all}
+use Rattle.lists.specs.Lists.{allPass}
 use Rattle.lists.proofs.Loops.{all-end, all-more, all-stop}
 use Rattle.limits.specs.Limits.{mostLanes}
 use Rattle.line.specs.Line.{idleLane, on}
@@ -15,7 +15,7 @@ use Rattle.lane_tests.proofs.rules.all_meet.Statement.{statement}
 use Rattle.lane_tests.proofs.rules.all_meet.Tie as tie
 
 abbrev Inv-loop : tie.InvT-loop
-Inv-loop rule line start lane i₀ i = (lane ≡ line .lane) × (length lane ≡ mostLanes) × (all (on (ruleOf rule line)) (drop i lane) ≡ all (on (ruleOf rule line)) (drop i₀ lane))
+Inv-loop rule line start lane i₀ i = (lane ≡ line .lane) × (length lane ≡ mostLanes) × (allPass (on (ruleOf rule line)) (drop i lane) ≡ allPass (on (ruleOf rule line)) (drop i₀ lane))
 
 abbrev μ-loop : tie.MeasureT-loop
 μ-loop rule line start lane i₀ i = mostLanes - i

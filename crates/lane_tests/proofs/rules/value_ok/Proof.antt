@@ -1,6 +1,6 @@
 -- `value_ok` meets its contract.
 use mathlib.Core.Path.{sym, _∙_}
-use borrow.Author.Tests.{not-false}
+use borrow.Author.Tests.{not-false, not-true}
 use borrow.Author.Needs.{needs}
 use Rattle.lane_tests.proofs.rules.value_ok.Statement.{statement}
 use Rattle.lane_tests.proofs.rules.value_ok.Tie as tie
@@ -9,7 +9,7 @@ has-turn-requires : tie.Need-has-turn-requires
 has-turn-requires c κs = search needs
 
 returns : tie.Need-returns
-returns c = search needs
+returns c = rw (sym (c .before .has-turn .ensures) ∙ not-true _ (c .if1 .taken))
 
 place-in-requires : tie.Need-place-in-requires
 place-in-requires c κs = search needs

@@ -2,7 +2,7 @@
 use mathlib.Core.Path.{_≡_, refl, sym, _∙_}
 use Prim.Native.Nat.{_-_, _≤_, _<_}
 use lib.ListN.{drop, length}
-use Rattle.lists.specs.Lists.{any}
+use Rattle.lists.specs.Lists.{somePass}
 use Rattle.limits.specs.Limits.{mostLanes}
 use Rattle.line.specs.Line.{idleLane, isGathered, on}
 use Rattle.lists.proofs.Loops.{any-end, any-here, any-more}
@@ -11,7 +11,7 @@ use Rattle.lane_tests.proofs.tallies.any_gathered.Statement.{statement}
 use Rattle.lane_tests.proofs.tallies.any_gathered.Tie as tie
 
 abbrev Inv-loop : tie.InvT-loop
-Inv-loop lane i₀ i = any (on isGathered) (drop i lane) ≡ any (on isGathered) lane
+Inv-loop lane i₀ i = somePass (on isGathered) (drop i lane) ≡ somePass (on isGathered) lane
 
 abbrev μ-loop : tie.MeasureT-loop
 μ-loop lane i₀ i = mostLanes - i

@@ -4,7 +4,7 @@ use mathlib.Core.Bool.{false}
 use Prim.Native.Nat.{_-_, _≤_, _<_}
 use lib.ListN.{drop, length}
 use borrow.Author.Tests.{not-false, not-true}
-use Rattle.lists.specs.Lists.{all}
+use Rattle.lists.specs.Lists.{allPass}
 use Rattle.lists.proofs.Loops.{all-end, all-more, all-stop}
 use Rattle.lists.proofs.Maps.{all-true}
 use Rattle.limits.specs.Limits.{mostLanes}
@@ -15,7 +15,7 @@ use Rattle.lane_tests.proofs.tallies.apart_from.Statement.{statement}
 use Rattle.lane_tests.proofs.tallies.apart_from.Tie as tie
 
 abbrev Inv-loop : tie.InvT-loop
-Inv-loop x start lane i₀ i = all (on (apart x)) (drop i lane) ≡ all (on (apart x)) (drop i₀ lane)
+Inv-loop x start lane i₀ i = allPass (on (apart x)) (drop i lane) ≡ allPass (on (apart x)) (drop i₀ lane)
 
 abbrev μ-loop : tie.MeasureT-loop
 μ-loop x start lane i₀ i = mostLanes - i

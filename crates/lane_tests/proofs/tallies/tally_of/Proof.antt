@@ -3,7 +3,7 @@ use Prim.Native.Nat.{_+_, _-_, _*_, _≤_, _<_}
 use mathlib.Core.Path.{_≡_}
 use native.Mathlib.Omega.{arith}
 use lib.ListN.{drop, length}
-use Rattle.lists.specs.Lists.{count, sumOf}
+use Rattle.lists.specs.Lists.{countPass, sumOf}
 use Rattle.lists.proofs.Loops.{count-end, count-more, sum-end, sum-more}
 use Rattle.limits.specs.Limits.{mostLanes}
 use Rattle.line.specs.Line.{countIn, hasTurn, idleLane, isGathered, on}
@@ -14,9 +14,9 @@ use Rattle.lane_tests.proofs.tallies.tally_of.Tie as tie
 
 abbrev Inv-loop : tie.InvT-loop
 Inv-loop lane flagged₀ turns₀ gathered₀ total₀ i₀ flagged turns gathered total i =
-    (flagged + count (on isFlagged) (drop i lane) ≡ count (on isFlagged) lane)
-    × (turns + count (on hasTurn) (drop i lane) ≡ count (on hasTurn) lane)
-    × (gathered + count (on isGathered) (drop i lane) ≡ count (on isGathered) lane)
+    (flagged + countPass (on isFlagged) (drop i lane) ≡ countPass (on isFlagged) lane)
+    × (turns + countPass (on hasTurn) (drop i lane) ≡ countPass (on hasTurn) lane)
+    × (gathered + countPass (on isGathered) (drop i lane) ≡ countPass (on isGathered) lane)
     × (total + sumOf (on countIn) (drop i lane) ≡ sumOf (on countIn) lane)
     × (flagged ≤ i)
     × (turns ≤ i)
@@ -103,9 +103,9 @@ returns c =
     let a = c .before .before .args in
     let i = c .before .loop .i in
     let past : length (a .t1) ≤ i = search needs in
-    let flagged : c .before .loop .flagged ≡ count (on isFlagged) (a .t1) = omega (arith, count-end (on isFlagged) (a .t1) i idleLane past) in
-    let turns : c .before .loop .turns ≡ count (on hasTurn) (a .t1) = omega (arith, count-end (on hasTurn) (a .t1) i idleLane past) in
-    let gathered : c .before .loop .gathered ≡ count (on isGathered) (a .t1) = omega (arith, count-end (on isGathered) (a .t1) i idleLane past) in
+    let flagged : c .before .loop .flagged ≡ countPass (on isFlagged) (a .t1) = omega (arith, count-end (on isFlagged) (a .t1) i idleLane past) in
+    let turns : c .before .loop .turns ≡ countPass (on hasTurn) (a .t1) = omega (arith, count-end (on hasTurn) (a .t1) i idleLane past) in
+    let gathered : c .before .loop .gathered ≡ countPass (on isGathered) (a .t1) = omega (arith, count-end (on isGathered) (a .t1) i idleLane past) in
     let total : c .before .loop .total ≡ sumOf (on countIn) (a .t1) = omega (arith, sum-end (on countIn) (a .t1) i idleLane past) in
     rw (flagged, turns, gathered, total)
 
