@@ -1,4 +1,4 @@
-/* The four functions of libembed.a, for C (C99 and later) and C++.
+/* The functions of libembed.a, for C (C99 and later) and C++.
  *
  * A sheet is a row of bytes, event after event: one byte of kind, 01 to 0C, then the body of that kind. A book is the
  * lent bytes in which the lanes' records are written. Both are described in document 01. Each function is proved to
@@ -37,6 +37,9 @@
 #ifdef __cplusplus
 extern "C" {
 #endif
+
+/* The version that this header is of: 10,000 for its first part, 100 for the second, 1 for the third. */
+#define GUDLEMI_VERSION 10000
 
 /* gudlemi_run: `text` may be too short for the printed lines. The greatest number, which is no length. */
 #define GUDLEMI_TOO_SHORT ((size_t)-1)
@@ -86,6 +89,9 @@ size_t gudlemi_event_length(const uint8_t *sheet, size_t sheet_length, size_t at
  *
  * It is 0 where they are an event, and at the sheet's end, at any index past it, and on an empty sheet. */
 uint8_t gudlemi_event_refusal(const uint8_t *sheet, size_t sheet_length, size_t at);
+
+/* The version of the library that is linked, in the form of GUDLEMI_VERSION. */
+uint32_t gudlemi_version(void);
 
 #ifdef __cplusplus
 }

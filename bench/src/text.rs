@@ -6,8 +6,8 @@ use std::marker::PhantomData;
 /// The most bytes that one line takes and that a store may reach past its end, taken together.
 pub const MOST_LINE: usize = 56;
 
-/// The least room for the text of a sheet: the bound of the proved program, 28 bytes for each byte
-/// of the sheet and two lines more. An event has at least 2 bytes and a line at most 56.
+/// The least room for the text of a sheet: the bound of the proved program, a line for each byte
+/// of the sheet and two lines more. An event has at least a byte and a line at most 56.
 pub fn least_room(sheet_length: usize) -> usize {
     (sheet_length + 2) * MOST_LINE
 }

@@ -1,7 +1,7 @@
 // Whether two lines are the same, field by field.
+use limits::MOST_LANES;
 use line::Lane;
 use line::Line;
-use limits::MOST_LANES;
 use line::Phase;
 use line::Purpose;
 use view::Block;

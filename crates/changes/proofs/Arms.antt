@@ -1,6 +1,6 @@
 -- What the last arm of a match on a phase says, where the tag is one of those that no arm before it has.
 use Prim.Native.Nat.{ℕ}
-use mathlib.Core.Path.{_≡_, refl, sym, _∙_}
+use mathlib.Core.Path.{_≡_, refl, _∙_}
 use mathlib.Core.Bool.{false}
 use mathlib.Core.List.{List, [], _∷_}
 use lib.Dec.{eqb}
@@ -8,7 +8,7 @@ use types.Run.{OneOf, miss}
 use denote.Enum.Declared.{tagOf}
 use borrow.Author.Tests.{ne-eqb}
 use Rattle.line.specs.declared.Phase.{Phase}
-use Rattle.line.specs.Line.{isHolding, isReading, isWaiting, isWoken, isWriting, phaseNumber}
+use Rattle.line.specs.Line.{isGathered, isHolding, isReading, isWaiting, isWoken, isWriting, phaseNumber}
 use Rattle.line.proofs.Phase.{the-type}
 
 abbrev tag : Phase → ℕ
@@ -28,7 +28,7 @@ tag-number (Phase.Gathered n) = refl
 pub not-numbered : (tags : List ℕ) (k : ℕ) → (OneOf tags k → ⊥) → (x : Phase) → OneOf tags (tag x) → eqb (phaseNumber x) k ≡ false
 not-numbered tags k none x one = ne-eqb (phaseNumber x) k (λ e. none (rw (tag-number x ∙ e) at one))
 
--- the tags of all phases but waiting, but waiting and woken, but holding, but busy writing, and but busy reading
+-- the tags of all phases but waiting, but waiting and woken, but holding, but busy writing, but busy reading, and but gathered
 abbrev but-waiting : List ℕ
 but-waiting = 0 ∷ 2 ∷ 3 ∷ 4 ∷ 5 ∷ 6 ∷ []
 
@@ -43,6 +43,9 @@ but-writing = 0 ∷ 1 ∷ 2 ∷ 3 ∷ 5 ∷ 6 ∷ []
 
 abbrev but-reading : List ℕ
 but-reading = 0 ∷ 1 ∷ 2 ∷ 3 ∷ 4 ∷ 6 ∷ []
+
+abbrev but-gathered : List ℕ
+but-gathered = 0 ∷ 1 ∷ 2 ∷ 3 ∷ 4 ∷ 5 ∷ []
 
 pub not-waiting : (x : Phase) → OneOf but-waiting (tag x) → isWaiting x ≡ false
 not-waiting x k = not-numbered but-waiting 1 (miss but-waiting 1 tt) x k
@@ -61,3 +64,6 @@ not-writing x k = not-numbered but-writing 4 (miss but-writing 4 tt) x k
 
 pub not-reading : (x : Phase) → OneOf but-reading (tag x) → isReading x ≡ false
 not-reading x k = not-numbered but-reading 5 (miss but-reading 5 tt) x k
+
+pub not-gathered : (x : Phase) → OneOf but-gathered (tag x) → isGathered x ≡ false
+not-gathered x k = not-numbered but-gathered 6 (miss but-gathered 6 tt) x k

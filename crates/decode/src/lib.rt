@@ -1,12 +1,12 @@
 // Events read from a lent sheet at a cursor: the body of each kind, then an event.
-use event::Cursor;
-use event::Event;
-use event::Reading;
 use decode_fields::BlocksField;
 use decode_fields::Field8;
 use decode_fields::Field16;
 use decode_fields::Field32;
 use decode_fields::Field64;
+use event::Cursor;
+use event::Event;
+use event::Reading;
 use view::Place;
 ghost use mathlib.Core.Path.{_≡_};
 ghost use Rattle.event.specs.ReadWrite.{readAt};

@@ -17,7 +17,6 @@ use Rattle.line.specs.declared.Purpose.{Purpose}
 use Rattle.line.specs.declared.Phase.{Phase}
 use Rattle.line.specs.Line.{idleLane, isFlagged, isIdleOrGathered, on, phaseAt}
 use Rattle.line.specs.Line as phases
-
 use Rattle.waitlist.specs.NextLane.{nextLane, wakesValues}
 use Rattle.waitlist.specs.declared.Wakes.{Wakes}
 use Rattle.event.specs.Event.{given}

@@ -4,12 +4,13 @@ ghost use mathlib.Core.Path.{_≡_};
 ghost use lib.ListN.{length};
 ghost use Rattle.embed.specs.Embedded.{eventLength, eventRefusal, lengthPrinted, textBound};
 ghost use Rattle.steps.specs.State.{fresh};
+ghost use Rattle.version.specs.Version.{versionNumber};
 ghost use Rattle.run.specs.Runs.{leftByRun, printedBy, textFits, textIn};
+use answer_text::MOST_LINE;
+use answer_text::Printed;
 use event::Cursor;
 use event::Reading;
 use line::Line;
-use answer_text::MOST_LINE;
-use answer_text::Printed;
 use run::run;
 use run_text::MOST_LAST;
 
@@ -67,4 +68,12 @@ pub extern "C" fn gudlemi_event_refusal(sheet: &[u8], at: usize) -> u8
         Reading::End => 0,
         Reading::Refused(number) => number,
     }
+}
+
+// The version of the library: 10,000 for its first part, 100 for the second, 1 for the third.
+#[no_mangle]
+pub extern "C" fn gudlemi_version() -> u32
+    ensures { λ r. ⌜ r ≡ versionNumber ⌝ }
+{
+    version::number()
 }

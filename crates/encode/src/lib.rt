@@ -34,7 +34,12 @@ fn put_event(event: Event, buffer: &mut [u8])
     ensures { λ r. ⌜ now (buffer .exit) ≡ withEvent (now (buffer .entry)) event ⌝ }
 {
     match event {
-        Event::Open { lanes, capacity } => encode_fields::put_head_u32(buffer, 0x01, lanes, capacity),
+        Event::Open { lanes, capacity } => encode_fields::put_head_u32(
+            buffer,
+            0x01,
+            lanes,
+            capacity,
+        ),
         Event::Want { lane, purpose } => encode_fields::put_head_u8(buffer, 0x02, lane, purpose),
         Event::Receive { lane } => encode_fields::put_head(buffer, 0x03, lane),
         Event::Take { lane, count } => encode_fields::put_head_u16(buffer, 0x04, lane, count),

@@ -21,7 +21,6 @@ use Rattle.event.proofs.Fields.{bytes-drop, field-below}
 -- ---- by kind
 -- P of each of `count` numbers from k on, one after the other: `p ▹ q ▹ .. ▹ listed`
 infixr 67 _▹_
-
 pub data EachFrom (P : ℕ → Type 0) : ℕ → ℕ → Type 0 where
   listed : {k : ℕ} → EachFrom P k 0
   _▹_ : {k count : ℕ} → P k → EachFrom P (suc k) count → EachFrom P k (suc count)

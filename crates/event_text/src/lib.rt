@@ -204,7 +204,12 @@ fn put_pair(out: &mut [u8], at: usize, event: Event) -> usize
         Event::Enter { lane, count } => {
             put_fields(out, at, b"enter lane", lane, b"count", count as u64)
         }
-        Event::Seek { whence, offset } => put_seek(out, at, whence, encode_fields::unsigned_of(offset)),
+        Event::Seek { whence, offset } => put_seek(
+            out,
+            at,
+            whence,
+            encode_fields::unsigned_of(offset),
+        ),
         _ => put_short(out, at, event),
     }
 }

@@ -6,8 +6,8 @@ ghost use Rattle.lists.specs.Lists.{allPass};
 ghost use Rattle.line.specs.Line.{on, placeIn};
 ghost use Rattle.line.specs.Sound.{regionEnd, regionOk, valueOk};
 ghost use Rattle.lane_tests.specs.Rules.{ruleOf};
-use line::Line;
 use limits::MOST_LANES;
+use line::Line;
 use line::Phase;
 use view::Place;
 

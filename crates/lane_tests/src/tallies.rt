@@ -8,8 +8,8 @@ ghost use Rattle.line.specs.Line.{flagFor, isGathered, on};
 ghost use Rattle.line.specs.Sound.{apart, apartLanes};
 ghost use Rattle.lane_tests.specs.Rules.{tallyOf};
 use crate::rules;
-use line::Lane;
 use limits::MOST_LANES;
+use line::Lane;
 use line::Phase;
 
 // How many lanes are flagged, how many have the turn, how many are gathered, and the gathered total.

@@ -5,6 +5,7 @@ pub const MOST_LANES: usize = 64;
 
 // The least and the greatest capacity of a book, in bytes.
 pub const LEAST_CAPACITY: u32 = 8;
+
 pub const MOST_CAPACITY: u32 = 65536;
 
 // The last place that the pointer takes.

@@ -46,8 +46,32 @@ fn print_run(sheet: &[u8]) {
     }
 }
 
-fn main() {
+// Standard input as a sheet.
+fn run_input() {
     let mut space = sheet_buffer();
     let count = io::read_full(0, &mut space);
     print_run(&space[..count]);
+}
+
+// Whether the first argument is this word.
+fn is_word(expected: &[u8]) -> bool {
+    let mut word: [u8; 16] = [0; 16];
+    let length = os::arg(1, &mut word);
+    check::same(&word[..length], expected)
+}
+
+fn main() {
+    let count = os::arg_count();
+    if count < 2 {
+        run_input();
+        return;
+    }
+    if count == 2 {
+        if is_word(b"version") {
+            let line = version::line();
+            io::write_all(1, &line);
+            return;
+        }
+    }
+    io::write_all(2, b"use: linebook < SHEET, or linebook version\n");
 }

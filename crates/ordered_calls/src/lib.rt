@@ -14,9 +14,9 @@ use changes::phases::to_write;
 use lane_tests::rules;
 use lane_tests::rules::Rule;
 use lane_tests::tallies::tally_of;
+use limits::MOST_LANES;
 use line::Lane;
 use line::Line;
-use limits::MOST_LANES;
 use line::Phase;
 use refuse::refuse;
 use steps::Answer;
@@ -28,13 +28,8 @@ fn start_at(phase: Phase, at: u32) -> Phase
     ensures { λ r. ⌜ r ≡ startedAt at phase ⌝ }
 {
     match phase {
-        Phase::Idle => Phase::Idle,
-        Phase::Waiting(purpose) => Phase::Waiting(purpose),
-        Phase::Woken(purpose, value) => Phase::Woken(purpose, value),
-        Phase::Holding(purpose, value) => Phase::Holding(purpose, value),
-        Phase::BusyWriting { left, next } => Phase::BusyWriting { left, next },
-        Phase::BusyReading { left, next } => Phase::BusyReading { left, next },
         Phase::Gathered(count) => to_write(count, Place(at)),
+        _ => phase,
     }
 }
 

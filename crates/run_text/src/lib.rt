@@ -5,11 +5,11 @@ ghost use lib.Dec.{leb};
 ghost use lib.ListN.{length};
 ghost use Rattle.number_text.specs.Stored.{Stored};
 ghost use Rattle.run_text.specs.RunText.{lastLines, mostLast, mostText};
-use event::Reading;
-use line::Line;
 use answer_text::MOST_LINE;
 use answer_text::put_answer;
 use answer_text::put_end;
+use event::Reading;
+use line::Line;
 use steps::Answer;
 
 // The last two lines at most.

@@ -119,22 +119,24 @@ fn read_sheet() {
     write_lines(&space[..length]);
 }
 
-// Whether the first argument is `show`.
-fn is_show() -> bool {
-    let mut word: [u8; 8] = [0; 8];
-    if os::arg(1, &mut word) != 4 {
-        return false;
+// Whether the first argument is this word.
+fn is_word(expected: &[u8]) -> bool {
+    let mut word: [u8; 16] = [0; 16];
+    let length = os::arg(1, &mut word);
+    check::same(&word[..length], expected)
+}
+
+// What the one argument asks for: a sheet in words, or the version; false where it is another.
+fn is_asked() -> bool {
+    if is_word(b"show") {
+        read_sheet();
+        return true;
     }
-    if word[0] != b's' {
-        return false;
+    if is_word(b"version") {
+        let line = version::line();
+        return io::write_all(libc::STDOUT_FILENO, &line);
     }
-    if word[1] != b'h' {
-        return false;
-    }
-    if word[2] != b'o' {
-        return false;
-    }
-    word[3] == b'w'
+    false
 }
 
 fn main() {
@@ -144,13 +146,12 @@ fn main() {
         return;
     }
     if count == 2 {
-        if is_show() {
-            read_sheet();
+        if is_asked() {
             return;
         }
     }
     io::write_all(
         libc::STDERR_FILENO,
-        b"use: sheet < NOTATION > SHEET, or sheet show < SHEET\n",
+        b"use: sheet < NOTATION > SHEET, sheet show < SHEET, or sheet version\n",
     );
 }

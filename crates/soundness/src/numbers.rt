@@ -2,11 +2,11 @@
 ghost use mathlib.Core.Path.{_≡_};
 ghost use Rattle.view.specs.View.{isPlain};
 ghost use Rattle.line.specs.Sound.{numbersOk, openNumbers, unopenedNumbers};
-use line::Line;
 use limits::LEAST_CAPACITY;
 use limits::MOST_CAPACITY;
 use limits::MOST_LANES;
 use limits::MOST_POINTER;
+use line::Line;
 use view::View;
 
 // A number of lanes as an index.

@@ -110,7 +110,14 @@ fn release(seen: Seen, answer: Answer, phase: Phase, pointer: Place, wakes: Wake
 }
 
 // A region of `count` records from a place: the pointer moves past it, and the lane releases.
-fn take_region(seen: Seen, flags: &[u8; MOST_LANES], lane: u8, start: Place, count: u16, phase: Phase) -> Change
+fn take_region(
+    seen: Seen,
+    flags: &[u8; MOST_LANES],
+    lane: u8,
+    start: Place,
+    count: u16,
+    phase: Phase,
+) -> Change
     requires { ⌜ start .0 ≤ mostPointer ⌝ }
     ensures { λ r. ⌜ r ≡ takenChange seen (now (flags .entry)) lane start count phase ⌝ }
 {
@@ -125,7 +132,14 @@ fn take_region(seen: Seen, flags: &[u8; MOST_LANES], lane: u8, start: Place, cou
 }
 
 // The take of a shared write, whose records must fit.
-fn take_to_write(seen: Seen, view: View, flags: &[u8; MOST_LANES], lane: u8, start: Place, count: u16) -> Change
+fn take_to_write(
+    seen: Seen,
+    view: View,
+    flags: &[u8; MOST_LANES],
+    lane: u8,
+    start: Place,
+    count: u16,
+) -> Change
     requires { ⌜ start .0 ≤ mostPointer ⌝ }
     ensures { λ r. ⌜ r ≡ takenToWrite seen view (now (flags .entry)) lane start count ⌝ }
 {

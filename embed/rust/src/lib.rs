@@ -25,6 +25,7 @@ mod linked {
         pub fn gudlemi_text_bound(sheet_length: usize) -> usize;
         pub fn gudlemi_event_length(sheet: *const u8, sheet_length: usize, at: usize) -> usize;
         pub fn gudlemi_event_refusal(sheet: *const u8, sheet_length: usize, at: usize) -> u8;
+        pub fn gudlemi_version() -> u32;
     }
 }
 
@@ -95,4 +96,10 @@ pub fn event_at(sheet: &[u8], at: usize) -> EventAt {
 
 fn length_given(length: usize) -> Option<usize> {
     (length != NO_LENGTH).then_some(length)
+}
+
+/// The version of the library that is linked: 10,000 for its first part, 100 for the second, 1 for the third.
+pub fn version() -> u32 {
+    // SAFETY: the function takes nothing and answers a number.
+    unsafe { linked::gudlemi_version() }
 }

@@ -50,10 +50,7 @@ fn walk(sheet: &[u8]) -> (Vec<usize>, EventAt) {
 #[test]
 fn example_prints_as_document_01_says() {
     let mut book = vec![0; 65_536];
-    assert_eq!(
-        run_to_string(EXAMPLE, &mut book).as_deref(),
-        Some(EXAMPLE_TEXT)
-    );
+    assert_eq!(run_to_string(EXAMPLE, &mut book).as_deref(), Some(EXAMPLE_TEXT));
     assert_eq!(book[..8], [2; 8]);
     assert_eq!(book[8..16], [3; 8]);
     assert_eq!(book[16..24], [1; 8]);
@@ -128,20 +125,14 @@ fn all_three_slices_can_be_empty() {
 fn bound_is_28_for_each_byte_and_112_while_it_has_64_bits() {
     assert_eq!(text_bound(0), Some(112));
     assert_eq!(text_bound(65_536), Some(56 * 65_536 + 112));
-    assert_eq!(
-        text_bound(658_812_288_346_769_696),
-        Some(18_446_744_073_709_551_600)
-    );
+    assert_eq!(text_bound(658_812_288_346_769_696), Some(18_446_744_073_709_551_600));
     assert_eq!(text_bound(658_812_288_346_769_697), None);
     assert_eq!(text_bound(usize::MAX), None);
 }
 
 #[test]
 fn events_of_the_example_have_their_lengths() {
-    assert_eq!(
-        walk(EXAMPLE),
-        (vec![6, 3, 3, 2, 4, 2, 4, 10, 10, 10, 10], EventAt::End)
-    );
+    assert_eq!(walk(EXAMPLE), (vec![6, 3, 3, 2, 4, 2, 4, 10, 10, 10, 10], EventAt::End));
 }
 
 #[test]
@@ -150,17 +141,9 @@ fn each_kind_has_its_length_and_every_cut_of_it_is_3() {
     for (kind, length) in (1..).zip(lengths) {
         let mut sheet = vec![0; length];
         sheet[0] = kind;
-        assert_eq!(
-            event_at(&sheet, 0),
-            EventAt::Event { length },
-            "kind {kind}"
-        );
+        assert_eq!(event_at(&sheet, 0), EventAt::Event { length }, "kind {kind}");
         for cut in 1..length {
-            assert_eq!(
-                event_at(&sheet[..cut], 0),
-                EventAt::Refused(3),
-                "kind {kind} cut to {cut}"
-            );
+            assert_eq!(event_at(&sheet[..cut], 0), EventAt::Refused(3), "kind {kind} cut to {cut}");
         }
     }
 }
@@ -203,12 +186,16 @@ fn threads_run_one_sheet_on_books_of_their_own() {
             scope.spawn(|| {
                 let mut book = [0; 64];
                 for _ in 0..200 {
-                    assert_eq!(
-                        run_to_string(EXAMPLE, &mut book).as_deref(),
-                        Some(EXAMPLE_TEXT)
-                    );
+                    assert_eq!(run_to_string(EXAMPLE, &mut book).as_deref(), Some(EXAMPLE_TEXT));
                 }
             });
         }
     });
+}
+
+#[test]
+fn version_is_the_headers() {
+    let header = include_str!("../../gudlemi.h");
+    let line = format!("#define GUDLEMI_VERSION {}\n", crate::version());
+    assert!(header.contains(&line));
 }

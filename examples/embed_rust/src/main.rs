@@ -15,8 +15,7 @@ const LONGEST_SHEET: usize = 65_536;
 fn read_sheet(name: &str) -> io::Result<Vec<u8>> {
     let mut sheet = Vec::new();
     let file = File::open(name)?;
-    file.take(LONGEST_SHEET as u64 + 1)
-        .read_to_end(&mut sheet)?;
+    file.take(LONGEST_SHEET as u64 + 1).read_to_end(&mut sheet)?;
     if sheet.len() > LONGEST_SHEET {
         return Err(io::Error::other("sheet too long"));
     }

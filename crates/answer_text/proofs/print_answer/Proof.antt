@@ -14,12 +14,6 @@ returns c =
     let short = lt-ltb _ _ (c .if1 .taken) in
     (rw short, rw short)
 
-put-answer-requires : tie.Need-put-answer-requires
-put-answer-requires c κs = search needs
-
-same-length : tie.Need-same-length
-same-length c = search needs
-
 returns-2 : tie.Need-returns-2
 returns-2 c =
     let call = c .before .before in
@@ -31,4 +25,4 @@ returns-2 c =
     (rw room (ap Printed.Length end), rw room (line .bytes))
 
 pub print-answer-spec : {M : Type 1} → statement M
-print-answer-spec = tie.close (tie.spec returns put-answer-requires same-length returns-2)
+print-answer-spec = tie.close (tie.spec returns (λ c κs. search needs) (λ c. search needs) returns-2)

@@ -28,9 +28,6 @@ put-values-requires c κs =
       line-short (a .number) (a .answer) _ (omega arith) (s .good .1 .1 .1 .0),
     )
 
-same-length : tie.Need-same-length
-same-length c = search needs
-
 returns : tie.Need-returns
 returns c =
     let call2 = c .before .before in
@@ -48,4 +45,4 @@ returns c =
     )
 
 pub put-answer-spec : {M : Type 1} → statement M
-put-answer-spec = tie.close (tie.spec put-number-requires put-values-requires same-length returns)
+put-answer-spec = tie.close (tie.spec put-number-requires put-values-requires (λ c. search needs) returns)

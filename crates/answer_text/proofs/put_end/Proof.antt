@@ -9,15 +9,6 @@ use borrow.Author.Needs.{needs}
 use Rattle.answer_text.proofs.put_end.Statement.{statement}
 use Rattle.answer_text.proofs.put_end.Tie as tie
 
-slice-aggregate-put-two : tie.Need-slice-aggregate-put-two
-slice-aggregate-put-two c = search needs
-
-wide32-requires : tie.Need-wide32-requires
-wide32-requires c κs = search needs
-
-wide32-requires-2 : tie.Need-wide32-requires-2
-wide32-requires-2 c κs = search needs
-
 -- the line of the two numbers as they are passed on is short enough
 short : (c : tie.After-wide322) → length (endLineOf (c .before .wide32 .result) (record { 0 = c .wide322 .result })) ≤ mostLine
 short c =
@@ -28,9 +19,6 @@ put-two-requires : tie.Need-put-two-requires
 put-two-requires c κs =
     let s = c .before .before .before .before .before in
     omega (arith, s .pre, short c)
-
-same-length : tie.Need-same-length
-same-length c = search needs
 
 returns : tie.Need-returns
 returns c =
@@ -43,9 +31,9 @@ pub put-end-spec : {M : Type 1} → statement M
 put-end-spec =
     tie.close
     (tie.spec
-    slice-aggregate-put-two
-    wide32-requires
-    wide32-requires-2
+    (λ c. search needs)
+    (λ c κs. search needs)
+    (λ c κs. search needs)
     put-two-requires
-    same-length
+    (λ c. search needs)
     returns)

@@ -4,16 +4,10 @@ use borrow.Author.Needs.{needs}
 use Rattle.calls.proofs.seek.Statement.{statement}
 use Rattle.calls.proofs.seek.Tie as tie
 
-call-event-requires : tie.Need-call-event-requires
-call-event-requires c κs = search needs
-
-same-length : tie.Need-same-length
-same-length c = search needs
-
 returns : tie.Need-returns
 returns c =
     let called = c .before .before in
     rw (toZ-ofZ (called .before .before .before .fits .offset)) at (called .call-event .ensures)
 
 pub seek-spec : {M : Type 1} → statement M
-seek-spec = tie.close (tie.spec call-event-requires same-length returns)
+seek-spec = tie.close (tie.spec (λ c κs. search needs) (λ c. search needs) returns)

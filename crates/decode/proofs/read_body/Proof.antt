@@ -5,42 +5,6 @@ use borrow.Author.Needs.{needs}
 use Rattle.decode.proofs.read_body.Statement.{statement}
 use Rattle.decode.proofs.read_body.Tie as tie
 
-read-open-requires : tie.Need-read-open-requires
-read-open-requires c κs = search needs
-
-read-want-requires : tie.Need-read-want-requires
-read-want-requires c κs = search needs
-
-read-receive-requires : tie.Need-read-receive-requires
-read-receive-requires c κs = search needs
-
-read-take-requires : tie.Need-read-take-requires
-read-take-requires c κs = search needs
-
-read-write-requires : tie.Need-read-write-requires
-read-write-requires c κs = search needs
-
-read-read-requires : tie.Need-read-read-requires
-read-read-requires c κs = search needs
-
-read-put-requires : tie.Need-read-put-requires
-read-put-requires c κs = search needs
-
-read-look-requires : tie.Need-read-look-requires
-read-look-requires c κs = search needs
-
-read-free-requires : tie.Need-read-free-requires
-read-free-requires c κs = search needs
-
-read-enter-requires : tie.Need-read-enter-requires
-read-enter-requires c κs = search needs
-
-read-view-requires : tie.Need-read-view-requires
-read-view-requires c κs = search needs
-
-read-seek-requires : tie.Need-read-seek-requires
-read-seek-requires c κs = search needs
-
 returns : tie.Need-returns
 returns c = rw (c .before .match .keys1) (c .read-open .ensures)
 
@@ -96,18 +60,18 @@ pub read-body-spec : {M : Type 1} → statement M
 read-body-spec =
     tie.close
     (tie.spec
-    read-open-requires
-    read-want-requires
-    read-receive-requires
-    read-take-requires
-    read-write-requires
-    read-read-requires
-    read-put-requires
-    read-look-requires
-    read-free-requires
-    read-enter-requires
-    read-view-requires
-    read-seek-requires
+    (λ c κs. search needs)
+    (λ c κs. search needs)
+    (λ c κs. search needs)
+    (λ c κs. search needs)
+    (λ c κs. search needs)
+    (λ c κs. search needs)
+    (λ c κs. search needs)
+    (λ c κs. search needs)
+    (λ c κs. search needs)
+    (λ c κs. search needs)
+    (λ c κs. search needs)
+    (λ c κs. search needs)
     returns
     returns-2
     returns-3

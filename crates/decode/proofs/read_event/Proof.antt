@@ -10,15 +10,6 @@ returns : tie.Need-returns
 unfolding readAt
 returns c = rw (le-leb _ _ (c .if1 .taken))
 
-shared-slice-read-read-body : tie.Need-shared-slice-read-read-body
-shared-slice-read-read-body c = search needs
-
-add-read-body : tie.Need-add-read-body
-add-read-body c = search needs
-
-read-body-requires : tie.Need-read-body-requires
-read-body-requires c κs = search needs
-
 returns-2 : tie.Need-returns-2
 unfolding readAt bodyAt
 returns-2 c = rw (lt-leb _ _ (c .before .before .if1 .left)) (c .read-body .ensures)
@@ -26,4 +17,4 @@ returns-2 c = rw (lt-leb _ _ (c .before .before .if1 .left)) (c .read-body .ensu
 pub read-event-spec : {M : Type 1} → statement M
 read-event-spec =
     tie.close
-    (tie.spec returns shared-slice-read-read-body add-read-body read-body-requires returns-2)
+    (tie.spec returns (λ c. search needs) (λ c. search needs) (λ c κs. search needs) returns-2)

@@ -9,26 +9,8 @@ use borrow.Author.Needs.{needs}
 use Rattle.decode.proofs.read_look.Statement.{statement}
 use Rattle.decode.proofs.read_look.Tie as tie
 
-read-u8-requires : tie.Need-read-u8-requires
-read-u8-requires c κs = search needs
-
-enum-known-lane : tie.Need-enum-known-lane
-enum-known-lane c = search needs
-
-enum-told : tie.Need-enum-told
-enum-told c = search needs
-
 returns : tie.Need-returns
 returns c = body-cut 8 refl (lit< tt) (cut-first (4 ∷ []) (missed (sym (c .before .before .read-u8 .ensures) ∙ ap said8 (c .enum-told .given .1))))
-
-read-u32-requires : tie.Need-read-u32-requires
-read-u32-requires c κs = search needs
-
-enum-known-place : tie.Need-enum-known-place
-enum-known-place c = search needs
-
-enum-told-2 : tie.Need-enum-told-2
-enum-told-2 c = search needs
 
 returns-2 : tie.Need-returns-2
 returns-2 c =
@@ -45,12 +27,12 @@ pub read-look-spec : {M : Type 1} → statement M
 read-look-spec =
     tie.close
     (tie.spec
-    read-u8-requires
-    enum-known-lane
-    enum-told
+    (λ c κs. search needs)
+    (λ c. search needs)
+    (λ c. search needs)
     returns
-    read-u32-requires
-    enum-known-place
-    enum-told-2
+    (λ c κs. search needs)
+    (λ c. search needs)
+    (λ c. search needs)
     returns-2
     returns-3)

@@ -9,26 +9,8 @@ use borrow.Author.Needs.{needs}
 use Rattle.decode.proofs.read_open.Statement.{statement}
 use Rattle.decode.proofs.read_open.Tie as tie
 
-read-u8-requires : tie.Need-read-u8-requires
-read-u8-requires c κs = search needs
-
-enum-known-lanes : tie.Need-enum-known-lanes
-enum-known-lanes c = search needs
-
-enum-told : tie.Need-enum-told
-enum-told c = search needs
-
 returns : tie.Need-returns
 returns c = body-cut 1 refl (lit< tt) (cut-first (4 ∷ []) (missed (sym (c .before .before .read-u8 .ensures) ∙ ap said8 (c .enum-told .given .1))))
-
-read-u32-requires : tie.Need-read-u32-requires
-read-u32-requires c κs = search needs
-
-enum-known-capacity : tie.Need-enum-known-capacity
-enum-known-capacity c = search needs
-
-enum-told-2 : tie.Need-enum-told-2
-enum-told-2 c = search needs
 
 returns-2 : tie.Need-returns-2
 returns-2 c =
@@ -45,12 +27,12 @@ pub read-open-spec : {M : Type 1} → statement M
 read-open-spec =
     tie.close
     (tie.spec
-    read-u8-requires
-    enum-known-lanes
-    enum-told
+    (λ c κs. search needs)
+    (λ c. search needs)
+    (λ c. search needs)
     returns
-    read-u32-requires
-    enum-known-capacity
-    enum-told-2
+    (λ c κs. search needs)
+    (λ c. search needs)
+    (λ c. search needs)
     returns-2
     returns-3)

@@ -9,40 +9,13 @@ use borrow.Author.Needs.{needs}
 use Rattle.decode.proofs.read_put.Statement.{statement}
 use Rattle.decode.proofs.read_put.Tie as tie
 
-read-u8-requires : tie.Need-read-u8-requires
-read-u8-requires c κs = search needs
-
-enum-known-lane : tie.Need-enum-known-lane
-enum-known-lane c = search needs
-
-enum-told : tie.Need-enum-told
-enum-told c = search needs
-
 returns : tie.Need-returns
 returns c = body-cut 7 refl (lit< tt) (cut-first (4 ∷ 8 ∷ []) (missed (sym (c .before .before .read-u8 .ensures) ∙ ap said8 (c .enum-told .given .1))))
-
-read-u32-requires : tie.Need-read-u32-requires
-read-u32-requires c κs = search needs
-
-enum-known-place : tie.Need-enum-known-place
-enum-known-place c = search needs
-
-enum-told-2 : tie.Need-enum-told-2
-enum-told-2 c = search needs
 
 returns-2 : tie.Need-returns-2
 returns-2 c =
     let lane = c .before .before .before .before in
     body-cut 7 refl (lit< tt) (cut-later (got (sym (lane .before .before .read-u8 .ensures) ∙ ap said8 (lane .lane .given .1))) (cut-first (8 ∷ []) (missed (sym (c .before .before .read-u32 .ensures) ∙ ap said32 (c .enum-told2 .given .1)))))
-
-read-u64-requires : tie.Need-read-u64-requires
-read-u64-requires c κs = search needs
-
-enum-known-content : tie.Need-enum-known-content
-enum-known-content c = search needs
-
-enum-told-3 : tie.Need-enum-told-3
-enum-told-3 c = search needs
 
 returns-3 : tie.Need-returns-3
 returns-3 c =
@@ -61,16 +34,16 @@ pub read-put-spec : {M : Type 1} → statement M
 read-put-spec =
     tie.close
     (tie.spec
-    read-u8-requires
-    enum-known-lane
-    enum-told
+    (λ c κs. search needs)
+    (λ c. search needs)
+    (λ c. search needs)
     returns
-    read-u32-requires
-    enum-known-place
-    enum-told-2
+    (λ c κs. search needs)
+    (λ c. search needs)
+    (λ c. search needs)
     returns-2
-    read-u64-requires
-    enum-known-content
-    enum-told-3
+    (λ c κs. search needs)
+    (λ c. search needs)
+    (λ c. search needs)
     returns-3
     returns-4)

@@ -11,34 +11,13 @@ use borrow.Author.Needs.{needs}
 use Rattle.decode.proofs.read_seek.Statement.{statement}
 use Rattle.decode.proofs.read_seek.Tie as tie
 
-read-u8-requires : tie.Need-read-u8-requires
-read-u8-requires c κs = search needs
-
-enum-known-whence : tie.Need-enum-known-whence
-enum-known-whence c = search needs
-
-enum-told : tie.Need-enum-told
-enum-told c = search needs
-
 returns : tie.Need-returns
 returns c = body-cut 12 refl (lit< tt) (cut-first (4 ∷ []) (missed (sym (c .before .before .read-u8 .ensures) ∙ ap said8 (c .enum-told .given .1))))
-
-read-u32-requires : tie.Need-read-u32-requires
-read-u32-requires c κs = search needs
-
-enum-known-offset : tie.Need-enum-known-offset
-enum-known-offset c = search needs
-
-enum-told-2 : tie.Need-enum-told-2
-enum-told-2 c = search needs
 
 returns-2 : tie.Need-returns-2
 returns-2 c =
     let whence = c .before .before .before .before in
     body-cut 12 refl (lit< tt) (cut-later (got (sym (whence .before .before .read-u8 .ensures) ∙ ap said8 (whence .whence .given .1))) (missed (sym (c .before .before .read-u32 .ensures) ∙ ap said32 (c .enum-told2 .given .1))))
-
-signed-of-requires : tie.Need-signed-of-requires
-signed-of-requires c κs = search needs
 
 returns-3 : tie.Need-returns-3
 returns-3 c =
@@ -50,13 +29,13 @@ pub read-seek-spec : {M : Type 1} → statement M
 read-seek-spec =
     tie.close
     (tie.spec
-    read-u8-requires
-    enum-known-whence
-    enum-told
+    (λ c κs. search needs)
+    (λ c. search needs)
+    (λ c. search needs)
     returns
-    read-u32-requires
-    enum-known-offset
-    enum-told-2
+    (λ c κs. search needs)
+    (λ c. search needs)
+    (λ c. search needs)
     returns-2
-    signed-of-requires
+    (λ c κs. search needs)
     returns-3)

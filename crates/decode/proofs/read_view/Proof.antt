@@ -9,55 +9,19 @@ use borrow.Author.Needs.{needs}
 use Rattle.decode.proofs.read_view.Statement.{statement}
 use Rattle.decode.proofs.read_view.Tie as tie
 
-read-u32-requires : tie.Need-read-u32-requires
-read-u32-requires c κs = search needs
-
-enum-known-displacement : tie.Need-enum-known-displacement
-enum-known-displacement c = search needs
-
-enum-told : tie.Need-enum-told
-enum-told c = search needs
-
 returns : tie.Need-returns
 returns c = body-cut 11 refl (lit< tt) (cut-first (2 ∷ 1 ∷ 2 ∷ 2 ∷ 2 ∷ 2 ∷ 2 ∷ 2 ∷ 2 ∷ 2 ∷ 2 ∷ 2 ∷ 2 ∷ 2 ∷ 2 ∷ 2 ∷ 2 ∷ 2 ∷ []) (missed (sym (c .before .before .read-u32 .ensures) ∙ ap said32 (c .enum-told .given .1))))
-
-read-u16-requires : tie.Need-read-u16-requires
-read-u16-requires c κs = search needs
-
-enum-known-extent : tie.Need-enum-known-extent
-enum-known-extent c = search needs
-
-enum-told-2 : tie.Need-enum-told-2
-enum-told-2 c = search needs
 
 returns-2 : tie.Need-returns-2
 returns-2 c =
     let displacement = c .before .before .before .before in
     body-cut 11 refl (lit< tt) (cut-later (got (sym (displacement .before .before .read-u32 .ensures) ∙ ap said32 (displacement .displacement .given .1))) (cut-first (1 ∷ 2 ∷ 2 ∷ 2 ∷ 2 ∷ 2 ∷ 2 ∷ 2 ∷ 2 ∷ 2 ∷ 2 ∷ 2 ∷ 2 ∷ 2 ∷ 2 ∷ 2 ∷ 2 ∷ []) (missed (sym (c .before .before .read-u16 .ensures) ∙ ap said16 (c .enum-told2 .given .1)))))
 
-read-u8-requires : tie.Need-read-u8-requires
-read-u8-requires c κs = search needs
-
-enum-known-used : tie.Need-enum-known-used
-enum-known-used c = search needs
-
-enum-told-3 : tie.Need-enum-told-3
-enum-told-3 c = search needs
-
 returns-3 : tie.Need-returns-3
 returns-3 c =
     let extent = c .before .before .before .before in
     let displacement = extent .before .before .before .before in
     body-cut 11 refl (lit< tt) (cut-later (got (sym (displacement .before .before .read-u32 .ensures) ∙ ap said32 (displacement .displacement .given .1))) (cut-later (got (sym (extent .before .before .read-u16 .ensures) ∙ ap said16 (extent .extent .given .1))) (cut-first (2 ∷ 2 ∷ 2 ∷ 2 ∷ 2 ∷ 2 ∷ 2 ∷ 2 ∷ 2 ∷ 2 ∷ 2 ∷ 2 ∷ 2 ∷ 2 ∷ 2 ∷ 2 ∷ []) (missed (sym (c .before .before .read-u8 .ensures) ∙ ap said8 (c .enum-told3 .given .1))))))
-
-read-blocks-requires : tie.Need-read-blocks-requires
-read-blocks-requires c κs = search needs
-
-enum-known-blocks : tie.Need-enum-known-blocks
-enum-known-blocks c = search needs
-
-enum-told-4 : tie.Need-enum-told-4
-enum-told-4 c = search needs
 
 returns-4 : tie.Need-returns-4
 returns-4 c =
@@ -78,20 +42,20 @@ pub read-view-spec : {M : Type 1} → statement M
 read-view-spec =
     tie.close
     (tie.spec
-    read-u32-requires
-    enum-known-displacement
-    enum-told
+    (λ c κs. search needs)
+    (λ c. search needs)
+    (λ c. search needs)
     returns
-    read-u16-requires
-    enum-known-extent
-    enum-told-2
+    (λ c κs. search needs)
+    (λ c. search needs)
+    (λ c. search needs)
     returns-2
-    read-u8-requires
-    enum-known-used
-    enum-told-3
+    (λ c κs. search needs)
+    (λ c. search needs)
+    (λ c. search needs)
     returns-3
-    read-blocks-requires
-    enum-known-blocks
-    enum-told-4
+    (λ c κs. search needs)
+    (λ c. search needs)
+    (λ c. search needs)
     returns-4
     returns-5)

@@ -9,26 +9,8 @@ use borrow.Author.Needs.{needs}
 use Rattle.decode.proofs.read_write.Statement.{statement}
 use Rattle.decode.proofs.read_write.Tie as tie
 
-read-u8-requires : tie.Need-read-u8-requires
-read-u8-requires c κs = search needs
-
-enum-known-lane : tie.Need-enum-known-lane
-enum-known-lane c = search needs
-
-enum-told : tie.Need-enum-told
-enum-told c = search needs
-
 returns : tie.Need-returns
 returns c = body-cut 5 refl (lit< tt) (cut-first (8 ∷ []) (missed (sym (c .before .before .read-u8 .ensures) ∙ ap said8 (c .enum-told .given .1))))
-
-read-u64-requires : tie.Need-read-u64-requires
-read-u64-requires c κs = search needs
-
-enum-known-content : tie.Need-enum-known-content
-enum-known-content c = search needs
-
-enum-told-2 : tie.Need-enum-told-2
-enum-told-2 c = search needs
 
 returns-2 : tie.Need-returns-2
 returns-2 c =
@@ -45,12 +27,12 @@ pub read-write-spec : {M : Type 1} → statement M
 read-write-spec =
     tie.close
     (tie.spec
-    read-u8-requires
-    enum-known-lane
-    enum-told
+    (λ c κs. search needs)
+    (λ c. search needs)
+    (λ c. search needs)
     returns
-    read-u64-requires
-    enum-known-content
-    enum-told-2
+    (λ c κs. search needs)
+    (λ c. search needs)
+    (λ c. search needs)
     returns-2
     returns-3)

@@ -10,9 +10,6 @@ use Rattle.decode_fields.proofs.has.Tie as tie
 returns : tie.Need-returns
 returns c = let h : length (c .before .args .sheet .now) < c .before .args .at + c .before .args .n = omega arith in rw (lt-leb _ _ h)
 
-sub-if2 : tie.Need-sub-if2
-sub-if2 c = search needs
-
 returns-2 : tie.Need-returns-2
 returns-2 c = let s = c .before .before .args in
     let h : length (s .sheet .now) < s .at + s .n = omega arith in
@@ -24,4 +21,4 @@ returns-3 c = let s = c .before .before .args in
     rw (le-leb _ _ h)
 
 pub has-spec : {M : Type 1} → statement M
-has-spec = tie.close (tie.spec returns sub-if2 returns-2 returns-3)
+has-spec = tie.close (tie.spec returns (λ c. search needs) returns-2 returns-3)

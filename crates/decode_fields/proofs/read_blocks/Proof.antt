@@ -7,26 +7,8 @@ use borrow.Author.Needs.{needs}
 use Rattle.decode_fields.proofs.read_blocks.Statement.{statement}
 use Rattle.decode_fields.proofs.read_blocks.Tie as tie
 
-read-four-requires : tie.Need-read-four-requires
-read-four-requires c κs = search needs
-
-enum-known-b0 : tie.Need-enum-known-b0
-enum-known-b0 c = search needs
-
-enum-told : tie.Need-enum-told
-enum-told c = search needs
-
 returns : tie.Need-returns
 returns c = cut-said (cut-first (replicate 8 2) (missed (sym (c .before .before .read-four .ensures) ∙ ap saidFour (c .enum-told .given .1))))
-
-read-four-requires-2 : tie.Need-read-four-requires-2
-read-four-requires-2 c κs = search needs
-
-enum-known-b4 : tie.Need-enum-known-b4
-enum-known-b4 c = search needs
-
-enum-told-2 : tie.Need-enum-told-2
-enum-told-2 c = search needs
 
 returns-2 : tie.Need-returns-2
 returns-2 c =
@@ -43,12 +25,12 @@ pub read-blocks-spec : {M : Type 1} → statement M
 read-blocks-spec =
     tie.close
     (tie.spec
-    read-four-requires
-    enum-known-b0
-    enum-told
+    (λ c κs. search needs)
+    (λ c. search needs)
+    (λ c. search needs)
     returns
-    read-four-requires-2
-    enum-known-b4
-    enum-told-2
+    (λ c κs. search needs)
+    (λ c. search needs)
+    (λ c. search needs)
     returns-2
     returns-3)

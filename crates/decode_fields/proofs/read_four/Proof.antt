@@ -7,55 +7,19 @@ use borrow.Author.Needs.{needs}
 use Rattle.decode_fields.proofs.read_four.Statement.{statement}
 use Rattle.decode_fields.proofs.read_four.Tie as tie
 
-read-block-requires : tie.Need-read-block-requires
-read-block-requires c κs = search needs
-
-enum-known-b0 : tie.Need-enum-known-b0
-enum-known-b0 c = search needs
-
-enum-told : tie.Need-enum-told
-enum-told c = search needs
-
 returns : tie.Need-returns
 returns c = cut-said (cut-first (2 ∷ 2 ∷ 2 ∷ 2 ∷ 2 ∷ 2 ∷ []) (missed (sym (c .before .before .read-block .ensures) ∙ ap saidBlock (c .enum-told .given .1))))
-
-read-block-requires-2 : tie.Need-read-block-requires-2
-read-block-requires-2 c κs = search needs
-
-enum-known-b1 : tie.Need-enum-known-b1
-enum-known-b1 c = search needs
-
-enum-told-2 : tie.Need-enum-told-2
-enum-told-2 c = search needs
 
 returns-2 : tie.Need-returns-2
 returns-2 c =
     let b0 = c .before .before .before .before in
     cut-said (cut-later (got (sym (b0 .before .before .read-block .ensures) ∙ ap saidBlock (b0 .b0 .given .1))) (cut-first (2 ∷ 2 ∷ 2 ∷ 2 ∷ []) (missed (sym (c .before .before .read-block2 .ensures) ∙ ap saidBlock (c .enum-told2 .given .1)))))
 
-read-block-requires-3 : tie.Need-read-block-requires-3
-read-block-requires-3 c κs = search needs
-
-enum-known-b2 : tie.Need-enum-known-b2
-enum-known-b2 c = search needs
-
-enum-told-3 : tie.Need-enum-told-3
-enum-told-3 c = search needs
-
 returns-3 : tie.Need-returns-3
 returns-3 c =
     let b1 = c .before .before .before .before in
     let b0 = b1 .before .before .before .before in
     cut-said (cut-later (got (sym (b0 .before .before .read-block .ensures) ∙ ap saidBlock (b0 .b0 .given .1))) (cut-later (got (sym (b1 .before .before .read-block2 .ensures) ∙ ap saidBlock (b1 .b1 .given .1))) (cut-first (2 ∷ 2 ∷ []) (missed (sym (c .before .before .read-block3 .ensures) ∙ ap saidBlock (c .enum-told3 .given .1))))))
-
-read-block-requires-4 : tie.Need-read-block-requires-4
-read-block-requires-4 c κs = search needs
-
-enum-known-b3 : tie.Need-enum-known-b3
-enum-known-b3 c = search needs
-
-enum-told-4 : tie.Need-enum-told-4
-enum-told-4 c = search needs
 
 returns-4 : tie.Need-returns-4
 returns-4 c =
@@ -76,20 +40,20 @@ pub read-four-spec : {M : Type 1} → statement M
 read-four-spec =
     tie.close
     (tie.spec
-    read-block-requires
-    enum-known-b0
-    enum-told
+    (λ c κs. search needs)
+    (λ c. search needs)
+    (λ c. search needs)
     returns
-    read-block-requires-2
-    enum-known-b1
-    enum-told-2
+    (λ c κs. search needs)
+    (λ c. search needs)
+    (λ c. search needs)
     returns-2
-    read-block-requires-3
-    enum-known-b2
-    enum-told-3
+    (λ c κs. search needs)
+    (λ c. search needs)
+    (λ c. search needs)
     returns-3
-    read-block-requires-4
-    enum-known-b3
-    enum-told-4
+    (λ c κs. search needs)
+    (λ c. search needs)
+    (λ c. search needs)
     returns-4
     returns-5)

@@ -17,9 +17,6 @@ reaches c = sym (c .before .has .ensures) ∙ not-false _ (c .if1 .left)
 room : (c : tie.Else1) → c .before .before .before .args .at + 2 ≤ length (c .before .before .before .args .sheet .now)
 room c = leb-true _ _ (reaches c)
 
-has-requires : tie.Need-has-requires
-has-requires c κs = search needs
-
 returns : tie.Need-returns
 returns c = one-cut 2 _ _ (sym (c .before .has .ensures) ∙ not-true _ (c .if1 .taken))
 
@@ -33,4 +30,4 @@ returns-2 : tie.Need-returns-2
 returns-2 c = one-got 2 _ _ _ (reaches (c .before)) (c .number16 .ensures .0)
 
 pub read-u16-spec : {M : Type 1} → statement M
-read-u16-spec = tie.close (tie.spec has-requires returns number16-requires add-t6 returns-2)
+read-u16-spec = tie.close (tie.spec (λ c κs. search needs) returns number16-requires add-t6 returns-2)

@@ -17,9 +17,6 @@ reaches c = sym (c .before .has .ensures) ∙ not-false _ (c .if1 .left)
 room : (c : tie.Else1) → c .before .before .before .args .at + 4 ≤ length (c .before .before .before .args .sheet .now)
 room c = leb-true _ _ (reaches c)
 
-has-requires : tie.Need-has-requires
-has-requires c κs = search needs
-
 returns : tie.Need-returns
 returns c = one-cut 4 _ _ (sym (c .before .has .ensures) ∙ not-true _ (c .if1 .taken))
 
@@ -33,4 +30,4 @@ returns-2 : tie.Need-returns-2
 returns-2 c = one-got 4 _ _ _ (reaches (c .before)) (c .number32 .ensures .0)
 
 pub read-u32-spec : {M : Type 1} → statement M
-read-u32-spec = tie.close (tie.spec has-requires returns number32-requires add-t6 returns-2)
+read-u32-spec = tie.close (tie.spec (λ c κs. search needs) returns number32-requires add-t6 returns-2)

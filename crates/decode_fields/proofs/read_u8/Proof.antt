@@ -18,9 +18,6 @@ reaches c = sym (c .before .has .ensures) ∙ not-false _ (c .if1 .left)
 room : (c : tie.Else1) → c .before .before .before .args .at + 1 ≤ length (c .before .before .before .args .sheet .now)
 room c = leb-true _ _ (reaches c)
 
-has-requires : tie.Need-has-requires
-has-requires c κs = search needs
-
 returns : tie.Need-returns
 returns c = one-cut 1 _ _ (sym (c .before .has .ensures) ∙ not-true _ (c .if1 .taken))
 
@@ -35,4 +32,4 @@ returns-2 c = let s = c .before .before .before .before .args in
     one-got 1 (s .sheet .now) (s .at) _ (reaches (c .before)) (sym (number-of-one (s .sheet .now) (s .at) (omega (arith, room (c .before)))))
 
 pub read-u8-spec : {M : Type 1} → statement M
-read-u8-spec = tie.close (tie.spec has-requires returns shared-slice-read-t6 add-t7 returns-2)
+read-u8-spec = tie.close (tie.spec (λ c κs. search needs) returns shared-slice-read-t6 add-t7 returns-2)

@@ -5,17 +5,8 @@ use borrow.Author.Needs.{needs}
 use Rattle.decode_fields.proofs.signed_of.Statement.{statement}
 use Rattle.decode_fields.proofs.signed_of.Tie as tie
 
-cast-result : tie.Need-cast-result
-cast-result c = search needs
-
 returns : tie.Need-returns
 returns c = low-half (c .before .args .n) (c .if1 .taken)
-
-sub-result : tie.Need-sub-result
-sub-result c = search needs
-
-cast-result-2 : tie.Need-cast-result-2
-cast-result-2 c = search needs
 
 sub-result-2 : tie.Need-sub-result-2
 sub-result-2 c = rw (high-half (c .before .args .n) (c .if1 .left)) (signed-fits (c .before .args .n))
@@ -25,4 +16,4 @@ returns-2 c = rw (high-half (c .before .args .n) (c .if1 .left)) (toZ-ofZ (signe
 
 pub signed-of-spec : {M : Type 1} → statement M
 signed-of-spec =
-    tie.close (tie.spec cast-result returns sub-result cast-result-2 sub-result-2 returns-2)
+    tie.close (tie.spec (λ c. search needs) returns (λ c. search needs) (λ c. search needs) sub-result-2 returns-2)

@@ -7,24 +7,12 @@ use borrow.Author.Needs.{needs}
 use Rattle.embed.proofs.gudlemi_event_length.Statement.{statement}
 use Rattle.embed.proofs.gudlemi_event_length.Tie as tie
 
-read-event-requires : tie.Need-read-event-requires
-read-event-requires c κs = search needs
-
-enum-known-reading : tie.Need-enum-known-reading
-enum-known-reading c = search needs
-
 sub-result : tie.Need-sub-result
 sub-result c =
     let told = c .before .before in
     let r = told .before .before in
     let a = r .before .before .args in
     omega (arith, reads (a .sheet .now) (a .at) _ _ (sym (r .read-event .ensures) ∙ told .reading .given .1) .longer)
-
-enum-told : tie.Need-enum-told
-enum-told c = search needs
-
-enum-told-2 : tie.Need-enum-told-2
-enum-told-2 c = search needs
 
 returns : tie.Need-returns
 returns c =
@@ -46,11 +34,11 @@ pub gudlemi-event-length-spec : {M : Type 1} → statement M
 gudlemi-event-length-spec =
     tie.close
     (tie.spec
-    read-event-requires
-    enum-known-reading
+    (λ c κs. search needs)
+    (λ c. search needs)
     sub-result
-    enum-told
-    enum-told-2
+    (λ c. search needs)
+    (λ c. search needs)
     returns
     returns-2
     returns-3)

@@ -5,18 +5,6 @@ use borrow.Author.Needs.{needs}
 use Rattle.embed.proofs.gudlemi_event_refusal.Statement.{statement}
 use Rattle.embed.proofs.gudlemi_event_refusal.Tie as tie
 
-read-event-requires : tie.Need-read-event-requires
-read-event-requires c κs = search needs
-
-enum-told : tie.Need-enum-told
-enum-told c = search needs
-
-enum-told-2 : tie.Need-enum-told-2
-enum-told-2 c = search needs
-
-enum-known-reading : tie.Need-enum-known-reading
-enum-known-reading c = search needs
-
 returns : tie.Need-returns
 returns c =
     let r = c .before .before in
@@ -36,10 +24,10 @@ pub gudlemi-event-refusal-spec : {M : Type 1} → statement M
 gudlemi-event-refusal-spec =
     tie.close
     (tie.spec
-    read-event-requires
-    enum-told
-    enum-told-2
-    enum-known-reading
+    (λ c κs. search needs)
+    (λ c. search needs)
+    (λ c. search needs)
+    (λ c. search needs)
     returns
     returns-2
     returns-3)

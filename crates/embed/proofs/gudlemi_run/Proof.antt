@@ -6,24 +6,6 @@ use borrow.Author.Needs.{needs}
 use Rattle.embed.proofs.gudlemi_run.Statement.{statement}
 use Rattle.embed.proofs.gudlemi_run.Tie as tie
 
-unopened-requires : tie.Need-unopened-requires
-unopened-requires c κs = search needs
-
-run-requires : tie.Need-run-requires
-run-requires c κs = search needs
-
-enum-known-printed : tie.Need-enum-known-printed
-enum-known-printed c = search needs
-
-enum-told : tie.Need-enum-told
-enum-told c = search needs
-
-same-length : tie.Need-same-length
-same-length c = search needs
-
-same-length-2 : tie.Need-same-length-2
-same-length-2 c = search needs
-
 returns : tie.Need-returns
 returns c =
     let told = c .before in
@@ -31,12 +13,6 @@ returns c =
     let u = r .before .before .before in
     let m = from-unopened _ _ _ _ _ _ _ (u .unopened .ensures) (r .run .ensures) in
     (ap lengthPrinted (sym (told .printed .given .1) ∙ m .answer), (m .book, (rw (m .answer) at (m .fits), m .text)))
-
-same-length-3 : tie.Need-same-length-3
-same-length-3 c = search needs
-
-same-length-4 : tie.Need-same-length-4
-same-length-4 c = search needs
 
 returns-2 : tie.Need-returns-2
 returns-2 c =
@@ -49,13 +25,13 @@ pub gudlemi-run-spec : {M : Type 1} → statement M
 gudlemi-run-spec =
     tie.close
     (tie.spec
-    unopened-requires
-    run-requires
-    enum-known-printed
-    enum-told
-    same-length
-    same-length-2
+    (λ c κs. search needs)
+    (λ c κs. search needs)
+    (λ c. search needs)
+    (λ c. search needs)
+    (λ c. search needs)
+    (λ c. search needs)
     returns
-    same-length-3
-    same-length-4
+    (λ c. search needs)
+    (λ c. search needs)
     returns-2)

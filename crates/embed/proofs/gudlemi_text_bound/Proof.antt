@@ -8,14 +8,8 @@ use Rattle.embed.proofs.gudlemi_text_bound.Tie as tie
 returns : tie.Need-returns
 returns c = rw (lt-ltb _ _ (c .if1 .taken))
 
-mul-result : tie.Need-mul-result
-mul-result c = search needs
-
-add-result : tie.Need-add-result
-add-result c = search needs
-
 returns-2 : tie.Need-returns-2
 returns-2 c = rw (le-ltb _ _ (c .if1 .left)) (omega arith)
 
 pub gudlemi-text-bound-spec : {M : Type 1} → statement M
-gudlemi-text-bound-spec = tie.close (tie.spec returns mul-result add-result returns-2)
+gudlemi-text-bound-spec = tie.close (tie.spec returns (λ c. search needs) (λ c. search needs) returns-2)

@@ -5,9 +5,6 @@ use borrow.Author.Needs.{needs}
 use Rattle.encode.proofs.write_event.Statement.{statement}
 use Rattle.encode.proofs.write_event.Tie as tie
 
-length-of-requires : tie.Need-length-of-requires
-length-of-requires c κs = search needs
-
 returns : tie.Need-returns
 returns c = let s = c .before in
     refused-2 _ (s .before .before .args .event) (sym (s .length-of .ensures) ∙ c .if1 .taken)
@@ -19,9 +16,6 @@ returns-2 c = let s = c .before .before in
 put-event-requires : tie.Need-put-event-requires
 put-event-requires c κs = rw (c .before .before .before .length-of .ensures) at (c .before .if2 .left)
 
-same-length : tie.Need-same-length
-same-length c = search needs
-
 returns-3 : tie.Need-returns-3
 returns-3 c = let call = c .before .before in
     let s = call .before .before .before .before in
@@ -31,4 +25,4 @@ returns-3 c = let call = c .before .before in
 pub write-event-spec : {M : Type 1} → statement M
 write-event-spec =
     tie.close
-    (tie.spec length-of-requires returns returns-2 put-event-requires same-length returns-3)
+    (tie.spec (λ c κs. search needs) returns returns-2 put-event-requires (λ c. search needs) returns-3)

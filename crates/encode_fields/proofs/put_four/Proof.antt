@@ -5,30 +5,6 @@ use borrow.Author.Needs.{needs}
 use Rattle.encode_fields.proofs.put_four.Statement.{statement}
 use Rattle.encode_fields.proofs.put_four.Tie as tie
 
-put-block-requires : tie.Need-put-block-requires
-put-block-requires c κs = search needs
-
-add-put-block : tie.Need-add-put-block
-add-put-block c = search needs
-
-put-block-requires-2 : tie.Need-put-block-requires-2
-put-block-requires-2 c κs = search needs
-
-add-put-block-2 : tie.Need-add-put-block-2
-add-put-block-2 c = search needs
-
-put-block-requires-3 : tie.Need-put-block-requires-3
-put-block-requires-3 c κs = search needs
-
-add-put-block-3 : tie.Need-add-put-block-3
-add-put-block-3 c = search needs
-
-put-block-requires-4 : tie.Need-put-block-requires-4
-put-block-requires-4 c κs = search needs
-
-same-length : tie.Need-same-length
-same-length c = search needs
-
 returns : tie.Need-returns
 returns c = let call4 = c .before .before in
     let call3 = call4 .before .before .before .before in
@@ -40,12 +16,12 @@ pub put-four-spec : {M : Type 1} → statement M
 put-four-spec =
     tie.close
     (tie.spec
-    put-block-requires
-    add-put-block
-    put-block-requires-2
-    add-put-block-2
-    put-block-requires-3
-    add-put-block-3
-    put-block-requires-4
-    same-length
+    (λ c κs. search needs)
+    (λ c. search needs)
+    (λ c κs. search needs)
+    (λ c. search needs)
+    (λ c κs. search needs)
+    (λ c. search needs)
+    (λ c κs. search needs)
+    (λ c. search needs)
     returns)

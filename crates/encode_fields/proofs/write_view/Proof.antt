@@ -5,24 +5,6 @@ use borrow.Author.Needs.{needs}
 use Rattle.encode_fields.proofs.write_view.Statement.{statement}
 use Rattle.encode_fields.proofs.write_view.Tie as tie
 
-put-u8-requires : tie.Need-put-u8-requires
-put-u8-requires c κs = search needs
-
-put-u32-requires : tie.Need-put-u32-requires
-put-u32-requires c κs = search needs
-
-put-u16-requires : tie.Need-put-u16-requires
-put-u16-requires c κs = search needs
-
-put-u8-requires-2 : tie.Need-put-u8-requires-2
-put-u8-requires-2 c κs = search needs
-
-put-blocks-requires : tie.Need-put-blocks-requires
-put-blocks-requires c κs = search needs
-
-same-length : tie.Need-same-length
-same-length c = search needs
-
 returns : tie.Need-returns
 returns c = let call5 = c .before .before in
     let call4 = call5 .before .before .before .before in
@@ -35,10 +17,10 @@ pub write-view-spec : {M : Type 1} → statement M
 write-view-spec =
     tie.close
     (tie.spec
-    put-u8-requires
-    put-u32-requires
-    put-u16-requires
-    put-u8-requires-2
-    put-blocks-requires
-    same-length
+    (λ c κs. search needs)
+    (λ c κs. search needs)
+    (λ c κs. search needs)
+    (λ c κs. search needs)
+    (λ c κs. search needs)
+    (λ c. search needs)
     returns)

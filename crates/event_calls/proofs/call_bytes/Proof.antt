@@ -9,30 +9,6 @@ use Rattle.event_calls.proofs.Unsound.{event-call, never-end, refused-c
 use Rattle.event_calls.proofs.call_bytes.Statement.{statement}
 use Rattle.event_calls.proofs.call_bytes.Tie as tie
 
-read-body-requires : tie.Need-read-body-requires
-read-body-requires c κs = search needs
-
-enum-known-event : tie.Need-enum-known-event
-enum-known-event c = search needs
-
-call-event-requires : tie.Need-call-event-requires
-call-event-requires c κs = search needs
-
-enum-told : tie.Need-enum-told
-enum-told c = search needs
-
-refuse-bytes-requires : tie.Need-refuse-bytes-requires
-refuse-bytes-requires c κs = search needs
-
-enum-known-number : tie.Need-enum-known-number
-enum-known-number c = search needs
-
-refuse-bytes-requires-2 : tie.Need-refuse-bytes-requires-2
-refuse-bytes-requires-2 c κs = search needs
-
-same-length : tie.Need-same-length
-same-length c = search needs
-
 returns : tie.Need-returns
 unfolding bodyAt
 returns c =
@@ -43,9 +19,6 @@ returns c =
     rw (event-call (callOf (s .args .kind) (s .args .body .now)) (0 + bodyLength (s .args .kind)) (told .event .given .0 .0) (told .event .given .0 .1 .0) (sym (reading .read-body .ensures) ∙ told .event .given .1))
     (called .call-event .ensures)
 
-same-length-2 : tie.Need-same-length-2
-same-length-2 c = search needs
-
 returns-2 : tie.Need-returns-2
 unfolding bodyAt
 returns-2 c =
@@ -53,9 +26,6 @@ returns-2 c =
     let reading = told .before .before in
     let s = reading .before .before .before in
     never-end (callOf (s .args .kind) (s .args .body .now)) (0 + bodyLength (s .args .kind)) (sym (reading .read-body .ensures) ∙ told .enum-told .given .1)
-
-same-length-3 : tie.Need-same-length-3
-same-length-3 c = search needs
 
 returns-3 : tie.Need-returns-3
 unfolding bodyAt
@@ -70,16 +40,16 @@ pub call-bytes-spec : {M : Type 1} → statement M
 call-bytes-spec =
     tie.close
     (tie.spec
-    read-body-requires
-    enum-known-event
-    call-event-requires
-    enum-told
-    refuse-bytes-requires
-    enum-known-number
-    refuse-bytes-requires-2
-    same-length
+    (λ c κs. search needs)
+    (λ c. search needs)
+    (λ c κs. search needs)
+    (λ c. search needs)
+    (λ c κs. search needs)
+    (λ c. search needs)
+    (λ c κs. search needs)
+    (λ c. search needs)
     returns
-    same-length-2
+    (λ c. search needs)
     returns-2
-    same-length-3
+    (λ c. search needs)
     returns-3)

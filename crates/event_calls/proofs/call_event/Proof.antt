@@ -23,50 +23,23 @@ is-sound-there d = sym (d .before .before .is-sound .ensures) ∙ not-false _ (d
 called-event : (d : tie.After-scope-of) (found : Scope) → d .scope-of .result ≡ found → start d .args .event ≡ eventIn found
 called-event d found q = found-event (start d .args .event) found (sym (d .scope-of .ensures) ∙ q)
 
-is-sound-requires : tie.Need-is-sound-requires
-is-sound-requires c κs = search needs
-
-refuse-requires : tie.Need-refuse-requires
-refuse-requires c κs = search needs
-
 returns : tie.Need-returns
 returns c =
     let tested = c .before .before in
     let s = tested .before .before in
     unsound (s .args .line) (s .args .book .now) (given (s .args .event)) _ (sym (tested .is-sound .ensures) ∙ not-true _ (c .before .if1 .taken)) (c .refuse .ensures)
 
-scope-of-requires : tie.Need-scope-of-requires
-scope-of-requires c κs = search needs
-
-enum-known-scope : tie.Need-enum-known-scope
-enum-known-scope c = search needs
-
 call-lane-requires : tie.Need-call-lane-requires
 call-lane-requires c κs = is-sound-there (c .before .before .before .before)
 
-enum-known-scope-2 : tie.Need-enum-known-scope-2
-enum-known-scope-2 c = search needs
-
 call-line-requires : tie.Need-call-line-requires
 call-line-requires c κs = is-sound-there (c .before .before .before .before)
-
-enum-told : tie.Need-enum-told
-enum-told c = search needs
-
-refuse-requires-2 : tie.Need-refuse-requires-2
-refuse-requires-2 c κs = search needs
-
-same-length : tie.Need-same-length
-same-length c = search needs
 
 returns-2 : tie.Need-returns-2
 returns-2 c =
     let called = c .before .before in
     let told = called .before .before .before in
     rw (called-event (told .before .before) _ (told .scope .given .1)) (called .call-lane .ensures)
-
-same-length-2 : tie.Need-same-length-2
-same-length-2 c = search needs
 
 returns-3 : tie.Need-returns-3
 returns-3 c =
@@ -85,18 +58,18 @@ pub call-event-spec : {M : Type 1} → statement M
 call-event-spec =
     tie.close
     (tie.spec
-    is-sound-requires
-    refuse-requires
+    (λ c κs. search needs)
+    (λ c κs. search needs)
     returns
-    scope-of-requires
-    enum-known-scope
+    (λ c κs. search needs)
+    (λ c. search needs)
     call-lane-requires
-    enum-known-scope-2
+    (λ c. search needs)
     call-line-requires
-    enum-told
-    refuse-requires-2
-    same-length
+    (λ c. search needs)
+    (λ c κs. search needs)
+    (λ c. search needs)
     returns-2
-    same-length-2
+    (λ c. search needs)
     returns-3
     returns-4)

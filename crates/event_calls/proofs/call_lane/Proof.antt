@@ -38,9 +38,6 @@ change-is c = c .decide .ensures .is ∙ ap (λ (seen : Seen). change-of seen (s
 abbrev book-of : tie.Start → Change → List ℕ
 book-of s change = bookDecided (s .args .call) (s .args .book .now) (change .answer)
 
-see-requires : tie.Need-see-requires
-see-requires c κs = search needs
-
 decide-requires : tie.Need-decide-requires
 decide-requires c κs =
     let seen = c .before .before .before .before in
@@ -48,9 +45,6 @@ decide-requires c κs =
 
 apply-requires : tie.Need-apply-requires
 apply-requires c κs = rw (change-is (c .before .before)) (decided-regular (look (start (see-of (c .before .before)))) (within (start (see-of (c .before .before))) .lanes-fit) _ _ _ _ _ .wakes)
-
-same-length : tie.Need-same-length
-same-length c = search needs
 
 returns : tie.Need-returns
 returns c =
@@ -63,8 +57,8 @@ pub call-lane-spec : {M : Type 1} → statement M
 call-lane-spec =
     tie.close
     (tie.spec
-    see-requires
+    (λ c κs. search needs)
     decide-requires
     apply-requires
-    same-length
+    (λ c. search needs)
     returns)

@@ -14,15 +14,9 @@ cast-result c = let b = below (c .before .args .z) (c .before .fits .z) (c .if1 
 add-result : tie.Need-add-result
 add-result c = let b = below (c .before .args .z) (c .before .fits .z) (c .if1 .taken) in rw (b .kept) (omega (arith, b .small))
 
-returns : tie.Need-returns
-returns c = search needs
-
 cast-result-2 : tie.Need-cast-result-2
 cast-result-2 c = let b = at-least (c .before .args .z) (c .before .fits .z) (c .if1 .left) in rw (b .kept) (tt, record { fits = omega (arith, b .small) })
 
-returns-2 : tie.Need-returns-2
-returns-2 c = search needs
-
 pub magnitude-spec : {M : Type 1} → statement M
 magnitude-spec =
-    tie.close (tie.spec sub-result cast-result add-result returns cast-result-2 returns-2)
+    tie.close (tie.spec sub-result cast-result add-result (λ c. search needs) cast-result-2 (λ c. search needs))

@@ -5,15 +5,6 @@ use mathlib.Core.Path.{refl}
 use Rattle.event_text.proofs.mark.Statement.{statement}
 use Rattle.event_text.proofs.mark.Tie as tie
 
-slice-write-out : tie.Need-slice-write-out
-slice-write-out c = search needs
-
-add-result : tie.Need-add-result
-add-result c = search needs
-
-same-length : tie.Need-same-length
-same-length c = search needs
-
 returns : tie.Need-returns
 returns c = (one-byte _ _ _, refl)
 
@@ -21,7 +12,7 @@ pub mark-spec : {M : Type 1} → statement M
 mark-spec =
     tie.close
     (tie.spec
-    slice-write-out
-    add-result
-    same-length
+    (λ c. search needs)
+    (λ c. search needs)
+    (λ c. search needs)
     returns)

@@ -12,9 +12,6 @@ put-number-requires c κs =
     let s = c .before .before in
     omega (arith, s .pre, few-digits 19 (s .args .n) (omega arith))
 
-same-length : tie.Need-same-length
-same-length c = search needs
-
 returns : tie.Need-returns
 returns c =
     let at1 = c .before .before in
@@ -26,5 +23,5 @@ number-spec =
     tie.close
     (tie.spec
     put-number-requires
-    same-length
+    (λ c. search needs)
     returns)

@@ -5,21 +5,6 @@ use borrow.Author.Needs.{needs}
 use Rattle.event_text.proofs.put_blocks.Statement.{statement}
 use Rattle.event_text.proofs.put_blocks.Tie as tie
 
-put-two-blocks-requires : tie.Need-put-two-blocks-requires
-put-two-blocks-requires c κs = search needs
-
-put-two-blocks-requires-2 : tie.Need-put-two-blocks-requires-2
-put-two-blocks-requires-2 c κs = search needs
-
-put-two-blocks-requires-3 : tie.Need-put-two-blocks-requires-3
-put-two-blocks-requires-3 c κs = search needs
-
-put-two-blocks-requires-4 : tie.Need-put-two-blocks-requires-4
-put-two-blocks-requires-4 c κs = search needs
-
-same-length : tie.Need-same-length
-same-length c = search needs
-
 returns : tie.Need-returns
 unfolding words
 returns c = search (two-then, needs)
@@ -28,9 +13,9 @@ pub put-blocks-spec : {M : Type 1} → statement M
 put-blocks-spec =
     tie.close
     (tie.spec
-    put-two-blocks-requires
-    put-two-blocks-requires-2
-    put-two-blocks-requires-3
-    put-two-blocks-requires-4
-    same-length
+    (λ c κs. search needs)
+    (λ c κs. search needs)
+    (λ c κs. search needs)
+    (λ c κs. search needs)
+    (λ c. search needs)
     returns)

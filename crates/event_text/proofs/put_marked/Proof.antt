@@ -4,17 +4,8 @@ use borrow.Author.Needs.{needs}
 use Rattle.event_text.proofs.put_marked.Statement.{statement}
 use Rattle.event_text.proofs.put_marked.Tie as tie
 
-number-requires : tie.Need-number-requires
-number-requires c κs = search needs
-
-mark-requires : tie.Need-mark-requires
-mark-requires c κs = search needs
-
-same-length : tie.Need-same-length
-same-length c = search needs
-
 returns : tie.Need-returns
 returns c = search (and-then, needs)
 
 pub put-marked-spec : {M : Type 1} → statement M
-put-marked-spec = tie.close (tie.spec number-requires mark-requires same-length returns)
+put-marked-spec = tie.close (tie.spec (λ c κs. search needs) (λ c κs. search needs) (λ c. search needs) returns)

@@ -5,26 +5,8 @@ use borrow.Author.Needs.{needs}
 use Rattle.event_text.proofs.put_signed.Statement.{statement}
 use Rattle.event_text.proofs.put_signed.Tie as tie
 
-number-requires : tie.Need-number-requires
-number-requires c κs = search needs
-
-same-length : tie.Need-same-length
-same-length c = search needs
-
 returns : tie.Need-returns
 returns c = rw (lt-ltb _ _ (c .before .before .before .before .if1 .taken)) (search needs)
-
-mark-requires : tie.Need-mark-requires
-mark-requires c κs = search needs
-
-sub-number : tie.Need-sub-number
-sub-number c = search needs
-
-number-requires-2 : tie.Need-number-requires-2
-number-requires-2 c κs = search needs
-
-same-length-2 : tie.Need-same-length-2
-same-length-2 c = search needs
 
 returns-2 : tie.Need-returns-2
 returns-2 c =
@@ -37,11 +19,11 @@ pub put-signed-spec : {M : Type 1} → statement M
 put-signed-spec =
     tie.close
     (tie.spec
-    number-requires
-    same-length
+    (λ c κs. search needs)
+    (λ c. search needs)
     returns
-    mark-requires
-    sub-number
-    number-requires-2
-    same-length-2
+    (λ c κs. search needs)
+    (λ c. search needs)
+    (λ c κs. search needs)
+    (λ c. search needs)
     returns-2)

@@ -10,9 +10,6 @@ put-record-requires c κs =
     let s = c .before .before in
     omega (arith, s .pre, record-length (s .args .content))
 
-same-length : tie.Need-same-length
-same-length c = search needs
-
 returns : tie.Need-returns
 returns c =
     let at1 = c .before .before in
@@ -24,5 +21,5 @@ recorded-spec =
     tie.close
     (tie.spec
     put-record-requires
-    same-length
+    (λ c. search needs)
     returns)

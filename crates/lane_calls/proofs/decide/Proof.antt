@@ -9,17 +9,11 @@ use Rattle.lane_calls.proofs.decide.Tie as tie
 abbrev start : tie.After-struct-known → tie.Start
 start c = c .before .before
 
-refuse-requires : tie.Need-refuse-requires
-refuse-requires c κs = search needs
-
 returns : tie.Need-returns
 unfolding decided
 returns c =
     let a = start (c .before .before) .args in
     record { is = rw (eq-eqb _ _ (c .before .if1 .taken)) (c .refuse .ensures); book-left = rw (c .refuse .ensures) (refused-book (a .call) (a .book .now) 4) }
-
-refuse-requires-2 : tie.Need-refuse-requires-2
-refuse-requires-2 c κs = search needs
 
 returns-2 : tie.Need-returns-2
 unfolding decided
@@ -27,12 +21,6 @@ returns-2 c =
     let e = c .before .before .before in
     let a = start (e .before) .args in
     record { is = rw (ne-eqb _ _ (e .if1 .left), le-leb _ _ (c .before .if2 .taken)) (c .refuse2 .ensures); book-left = rw (c .refuse2 .ensures) (refused-book (a .call) (a .book .now) 8) }
-
-decide-at-requires : tie.Need-decide-at-requires
-decide-at-requires c κs = search needs
-
-same-length : tie.Need-same-length
-same-length c = search needs
 
 returns-3 : tie.Need-returns-3
 unfolding decided
@@ -45,10 +33,10 @@ pub decide-spec : {M : Type 1} → statement M
 decide-spec =
     tie.close
     (tie.spec
-    refuse-requires
+    (λ c κs. search needs)
     returns
-    refuse-requires-2
+    (λ c κs. search needs)
     returns-2
-    decide-at-requires
-    same-length
+    (λ c κs. search needs)
+    (λ c. search needs)
     returns-3)

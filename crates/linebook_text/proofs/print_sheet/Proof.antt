@@ -19,12 +19,6 @@ short-fits : (out : List ℕ) → textFits (tooLongPrinted out) (length out) ≡
 short-fits out =
     by-test (ltb (length out) 15) (λ e. rw e) (λ e. rw e (le-leb 15 (length out) (ltb-false (length out) 15 e)))
 
-print-too-long-requires : tie.Need-print-too-long-requires
-print-too-long-requires c κs = search needs
-
-same-length : tie.Need-same-length
-same-length c = search needs
-
 returns : tie.Need-returns
 returns c =
     let p = c .before .before in
@@ -32,18 +26,6 @@ returns c =
     let s = t .before .before .before .before in
     let long = lt-ltb _ _ (t .if1 .taken) in
     (rw long (p .print-too-long .ensures .0), (rw long refl, (rw long (p .print-too-long .ensures .1), subst (λ (q : Printed). textFits q (length (s .args .out .now)) ≡ true) (sym (p .print-too-long .ensures .0)) (short-fits (s .args .out .now)))))
-
-unopened-requires : tie.Need-unopened-requires
-unopened-requires c κs = search needs
-
-run-requires : tie.Need-run-requires
-run-requires c κs = search needs
-
-same-length-2 : tie.Need-same-length-2
-same-length-2 c = search needs
-
-same-length-3 : tie.Need-same-length-3
-same-length-3 c = search needs
 
 returns-2 : tie.Need-returns-2
 returns-2 c =
@@ -58,11 +40,11 @@ pub print-sheet-spec : {M : Type 1} → statement M
 print-sheet-spec =
     tie.close
     (tie.spec
-    print-too-long-requires
-    same-length
+    (λ c κs. search needs)
+    (λ c. search needs)
     returns
-    unopened-requires
-    run-requires
-    same-length-2
-    same-length-3
+    (λ c κs. search needs)
+    (λ c κs. search needs)
+    (λ c. search needs)
+    (λ c. search needs)
     returns-2)

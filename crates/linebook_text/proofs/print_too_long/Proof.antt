@@ -9,15 +9,6 @@ use Rattle.linebook_text.proofs.print_too_long.Tie as tie
 returns : tie.Need-returns
 returns c = (rw (lt-ltb _ _ (c .if1 .taken)), rw (lt-ltb _ _ (c .if1 .taken)))
 
-slice-aggregate-put-word : tie.Need-slice-aggregate-put-word
-slice-aggregate-put-word c = search needs
-
-put-word-requires : tie.Need-put-word-requires
-put-word-requires c κs = search needs
-
-same-length : tie.Need-same-length
-same-length c = search needs
-
 returns-2 : tie.Need-returns-2
 returns-2 c =
     let p = c .before .before in
@@ -26,4 +17,4 @@ returns-2 c =
 
 pub print-too-long-spec : {M : Type 1} → statement M
 print-too-long-spec =
-    tie.close (tie.spec returns slice-aggregate-put-word put-word-requires same-length returns-2)
+    tie.close (tie.spec returns (λ c. search needs) (λ c κs. search needs) (λ c. search needs) returns-2)

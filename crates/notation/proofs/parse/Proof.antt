@@ -9,12 +9,6 @@ use Rattle.notation.proofs.parse.Tie as tie
 returns : tie.Need-returns
 returns c = let a = c .before .before .before .args in too-long (a .text .now) (a .out .now) (c .if1 .taken)
 
-find-fault-requires : tie.Need-find-fault-requires
-find-fault-requires c κs = search needs
-
-enum-known-fault : tie.Need-enum-known-fault
-enum-known-fault c = search needs
-
 slice-aggregate-spot-after : tie.Need-slice-aggregate-spot-after
 slice-aggregate-spot-after c =
     let told = c .before .before in
@@ -26,18 +20,6 @@ spot-after-requires c κs =
     let told = c .before .before in
     let found = told .before .before in
     before-short _ _ _ (fault-within _ _ _ (told .fault .given .1) (found .find-fault .ensures .1)) (found .before .if1 .left)
-
-enum-told : tie.Need-enum-told
-enum-told c = search needs
-
-spot-after-requires-2 : tie.Need-spot-after-requires-2
-spot-after-requires-2 c κs = search needs
-
-enum-told-2 : tie.Need-enum-told-2
-enum-told-2 c = search needs
-
-store-requires : tie.Need-store-requires
-store-requires c κs = search needs
 
 returns-2 : tie.Need-returns-2
 returns-2 c =
@@ -53,9 +35,6 @@ returns-3 c =
     let a = found .before .before .before .before .args in
     rw (c .spot-after2 .ensures) (no-second (a .text .now) (a .out .now) (found .before .if1 .left) (sym (found .find-fault .ensures .0) ∙ told .enum-told .given .1))
 
-same-length : tie.Need-same-length
-same-length c = search needs
-
 returns-4 : tie.Need-returns-4
 returns-4 c =
     let stored = c .before .before in
@@ -69,15 +48,15 @@ parse-spec =
     tie.close
     (tie.spec
     returns
-    find-fault-requires
-    enum-known-fault
+    (λ c κs. search needs)
+    (λ c. search needs)
     slice-aggregate-spot-after
     spot-after-requires
-    enum-told
-    spot-after-requires-2
-    enum-told-2
-    store-requires
+    (λ c. search needs)
+    (λ c κs. search needs)
+    (λ c. search needs)
+    (λ c κs. search needs)
     returns-2
     returns-3
-    same-length
+    (λ c. search needs)
     returns-4)

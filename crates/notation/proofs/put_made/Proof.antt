@@ -10,12 +10,6 @@ use Rattle.notation.proofs.put_made.Tie as tie
 slice-write-out : tie.Need-slice-write-out
 slice-write-out c = omega (arith, rw (c .if1 .taken) at (c .before .pre))
 
-add-result : tie.Need-add-result
-add-result c = search needs
-
-same-length : tie.Need-same-length
-same-length c = search needs
-
 returns : tie.Need-returns
 returns c = rw (c .if1 .taken) (one-byte (c .before .args .out .now) (c .before .args .at) (c .before .args .state .value))
 
@@ -23,4 +17,4 @@ returns-2 : tie.Need-returns-2
 returns-2 c = rw (c .if1 .left) (record { bytes = refl; ends = sym (add-zero _) })
 
 pub put-made-spec : {M : Type 1} → statement M
-put-made-spec = tie.close (tie.spec slice-write-out add-result same-length returns returns-2)
+put-made-spec = tie.close (tie.spec slice-write-out (λ c. search needs) (λ c. search needs) returns returns-2)

@@ -22,20 +22,11 @@ abbrev μ-loop : tie.MeasureT-loop
 loop-holds : tie.Need-loop-holds Inv-loop μ-loop
 loop-holds c = (refl, omega arith, omega arith, omega arith)
 
-shared-slice-read-spot-past : tie.Need-shared-slice-read-spot-past Inv-loop μ-loop
-shared-slice-read-spot-past c = search needs
-
 spot-past-requires : tie.Need-spot-past-requires Inv-loop μ-loop
 spot-past-requires c κs =
     let lp = c .before .before .loop in
     let lanes-fit = c .before .before .before .before .pre in
     (omega (arith, lp .inv .1, c .before .loop-test .taken, lanes-fit), omega (arith, lp .inv .2, c .before .loop-test .taken, lanes-fit))
-
-add-i : tie.Need-add-i Inv-loop μ-loop
-add-i c = search needs
-
-loop-less : tie.Need-loop-less Inv-loop μ-loop
-loop-less c = search needs
 
 loop-again : tie.Need-loop-again Inv-loop μ-loop
 loop-again c =
@@ -61,9 +52,9 @@ spot-after-spec =
     Inv-loop
     μ-loop
     loop-holds
-    shared-slice-read-spot-past
+    (λ c. search needs)
     spot-past-requires
-    add-i
-    loop-less
+    (λ c. search needs)
+    (λ c. search needs)
     loop-again
     returns)

@@ -6,50 +6,23 @@ use borrow.Author.Needs.{needs}
 use Rattle.notation.proofs.step.Statement.{statement}
 use Rattle.notation.proofs.step.Tie as tie
 
-passed-requires : tie.Need-passed-requires
-passed-requires c κs = search needs
-
 returns : tie.Need-returns
 returns c = (c .passed .ensures ∙ sym (step-line-end (c .before .before .args .s) (c .before .before .args .c) (c .before .if1 .taken)), rw (c .passed .ensures) (c .before .before .pre))
-
-passed-requires-2 : tie.Need-passed-requires-2
-passed-requires-2 c κs = search needs
 
 returns-2 : tie.Need-returns-2
 returns-2 c = (c .passed2 .ensures ∙ sym (step-comment (c .before .before .before .args .s) (c .before .before .before .args .c) (c .before .before .if1 .left) (c .before .if2 .taken)), rw (c .passed2 .ensures) (c .before .before .before .pre))
 
-passed-requires-3 : tie.Need-passed-requires-3
-passed-requires-3 c κs = search needs
-
 returns-3 : tie.Need-returns-3
 returns-3 c = (c .passed3 .ensures ∙ sym (step-hash (c .before .before .before .before .args .s) (c .before .before .before .before .args .c) (c .before .before .before .if1 .left) (c .before .before .if2 .left) (c .before .if3 .taken)), rw (c .passed3 .ensures) (c .before .before .before .before .pre))
-
-is-free-requires : tie.Need-is-free-requires
-is-free-requires c κs = search needs
-
-passed-requires-4 : tie.Need-passed-requires-4
-passed-requires-4 c κs = search needs
 
 returns-4 : tie.Need-returns-4
 returns-4 c = (c .passed4 .ensures ∙ sym (step-free (c .before .before .before .before .before .before .args .s) (c .before .before .before .before .before .before .args .c) (c .before .before .before .before .before .if1 .left) (c .before .before .before .before .if2 .left) (c .before .before .before .if3 .left) (sym (c .before .before .is-free .ensures) ∙ c .before .if4 .taken)), rw (c .passed4 .ensures) (c .before .before .before .before .before .before .pre))
 
-digit-requires : tie.Need-digit-requires
-digit-requires c κs = search needs
-
 returns-5 : tie.Need-returns-5
 returns-5 c = (sym (step-bad (c .before .before .before .before .before .before .before .args .s) (c .before .before .before .before .before .before .before .args .c) (c .before .before .before .before .before .before .if1 .left) (c .before .before .before .before .before .if2 .left) (c .before .before .before .before .if3 .left) (sym (c .before .before .before .is-free .ensures) ∙ c .before .before .if4 .left) (c .before .digit .result) (c .before .digit .ensures .0) (c .if5 .taken)), c .before .before .before .before .before .before .before .pre)
 
-passed-requires-5 : tie.Need-passed-requires-5
-passed-requires-5 c κs = search needs
-
 returns-6 : tie.Need-returns-6
 returns-6 c = (c .passed5 .ensures ∙ sym (step-first (c .before .before .before .before .before .before .before .before .before .before .args .s) (c .before .before .before .before .before .before .before .before .before .before .args .c) (c .before .before .before .before .before .before .before .before .before .if1 .left) (c .before .before .before .before .before .before .before .before .if2 .left) (c .before .before .before .before .before .before .before .if3 .left) (sym (c .before .before .before .before .before .before .is-free .ensures) ∙ c .before .before .before .before .before .if4 .left) (c .before .before .before .before .digit .result) (c .before .before .before .before .digit .ensures .0) (c .before .before .before .if5 .left) (c .before .if6 .taken)), rw (c .passed5 .ensures) (c .before .before .before .before .digit .ensures .1))
-
-mul-t6 : tie.Need-mul-t6
-mul-t6 c = search needs
-
-add-t7 : tie.Need-add-t7
-add-t7 c = search needs
 
 returns-7 : tie.Need-returns-7
 returns-7 c = (sym (step-second (c .before .before .before .before .before .before .before .before .before .before .args .s) (c .before .before .before .before .before .before .before .before .before .before .args .c) (c .before .before .before .before .before .before .before .before .before .if1 .left) (c .before .before .before .before .before .before .before .before .if2 .left) (c .before .before .before .before .before .before .before .if3 .left) (sym (c .before .before .before .before .before .before .is-free .ensures) ∙ c .before .before .before .before .before .if4 .left) (c .before .before .before .before .digit .result) (c .before .before .before .before .digit .ensures .0) (c .before .before .before .if5 .left) (c .before .if6 .left)), omega arith)
@@ -58,19 +31,19 @@ pub step-spec : {M : Type 1} → statement M
 step-spec =
     tie.close
     (tie.spec
-    passed-requires
+    (λ c κs. search needs)
     returns
-    passed-requires-2
+    (λ c κs. search needs)
     returns-2
-    passed-requires-3
+    (λ c κs. search needs)
     returns-3
-    is-free-requires
-    passed-requires-4
+    (λ c κs. search needs)
+    (λ c κs. search needs)
     returns-4
-    digit-requires
+    (λ c κs. search needs)
     returns-5
-    passed-requires-5
+    (λ c κs. search needs)
     returns-6
-    mul-t6
-    add-t7
+    (λ c. search needs)
+    (λ c. search needs)
     returns-7)

@@ -8,9 +8,6 @@ use borrow.Author.Needs.{needs}
 use Rattle.notation.proofs.store.Statement.{statement}
 use Rattle.notation.proofs.store.Tie as tie
 
-count-bytes-requires : tie.Need-count-bytes-requires
-count-bytes-requires c κs = search needs
-
 returns : tie.Need-returns
 returns c =
     let a = c .before .before .before .before .args in
@@ -18,9 +15,6 @@ returns c =
 
 put-bytes-requires : tie.Need-put-bytes-requires
 put-bytes-requires c κs = omega (arith, c .before .if1 .left, c .before .before .count-bytes .ensures)
-
-same-length : tie.Need-same-length
-same-length c = search needs
 
 returns-2 : tie.Need-returns-2
 returns-2 c =
@@ -32,4 +26,4 @@ returns-2 c =
 
 pub store-spec : {M : Type 1} → statement M
 store-spec =
-    tie.close (tie.spec count-bytes-requires returns put-bytes-requires same-length returns-2)
+    tie.close (tie.spec (λ c κs. search needs) returns put-bytes-requires (λ c. search needs) returns-2)

@@ -32,20 +32,8 @@ div-hex-digit c = let lp = c .before .loop in unit-some (lp .i) (lp .rest) (lp .
 hex-digit-requires : tie.Need-hex-digit-requires Inv-loop μ-loop
 hex-digit-requires c κs = let lp = c .before .loop in digit-small (lp .i) (lp .rest) (lp .unit) (c .loop-test .taken) (lp .inv .3) (lp .inv .4)
 
-add-out : tie.Need-add-out Inv-loop μ-loop
-add-out c = search needs
-
-slice-write-out : tie.Need-slice-write-out Inv-loop μ-loop
-slice-write-out c = search needs
-
 rem-rest : tie.Need-rem-rest Inv-loop μ-loop
 rem-rest c = let lp = c .before .before .loop in unit-some (lp .i) (lp .rest) (lp .unit) (c .before .loop-test .taken) (lp .inv .3)
-
-add-i : tie.Need-add-i Inv-loop μ-loop
-add-i c = search needs
-
-loop-less : tie.Need-loop-less Inv-loop μ-loop
-loop-less c = search needs
 
 loop-again : tie.Need-loop-again Inv-loop μ-loop
 loop-again c =
@@ -59,12 +47,6 @@ loop-again c =
       unit-next (lp .i) (lp .rest) (lp .unit) (t .loop-test .taken) (lp .inv .3),
       rest-small (lp .i) (lp .rest) (lp .unit) (t .loop-test .taken) (lp .inv .3),
     )
-
-add-result : tie.Need-add-result Inv-loop μ-loop
-add-result c = search needs
-
-same-length : tie.Need-same-length Inv-loop μ-loop
-same-length c = search needs
 
 returns : tie.Need-returns Inv-loop μ-loop
 unfolding hexIn
@@ -83,12 +65,12 @@ put-hex-spec =
     loop-holds
     div-hex-digit
     hex-digit-requires
-    add-out
-    slice-write-out
+    (λ c. search needs)
+    (λ c. search needs)
     rem-rest
-    add-i
-    loop-less
+    (λ c. search needs)
+    (λ c. search needs)
     loop-again
-    add-result
-    same-length
+    (λ c. search needs)
+    (λ c. search needs)
     returns)

@@ -17,28 +17,16 @@ use Rattle.ordered_calls.proofs.enter.Tie as tie
 shape : (c : tie.Start) → Shaped (c .args .line)
 shape c = shape-of (c .args .line) (c .good .0)
 
-refuse-requires : tie.Need-refuse-requires
-refuse-requires c κs = search needs
-
 returns : tie.Need-returns
 returns c =
     let s = c .before .before .before .before in
     unopened-refused (s .args .line) (s .args .book .now) (shape s) (s .pre) (s .args .lane) (s .args .count) _ (c .before .if1 .taken) (c .refuse .ensures)
-
-refuse-requires-2 : tie.Need-refuse-requires-2
-refuse-requires-2 c κs = search needs
 
 returns-2 : tie.Need-returns-2
 returns-2 c =
     let e1 = c .before .before .before in
     let s = e1 .before .before .before in
     lane-refused (s .args .line) (s .args .book .now) (shape s) (s .pre) (s .args .lane) (s .args .count) _ (e1 .if1 .left) (c .before .if2 .taken) (c .refuse2 .ensures)
-
-all-meet-requires : tie.Need-all-meet-requires
-all-meet-requires c κs = search needs
-
-refuse-requires-3 : tie.Need-refuse-requires-3
-refuse-requires-3 c κs = search needs
 
 returns-3 : tie.Need-returns-3
 returns-3 c =
@@ -47,20 +35,11 @@ returns-3 c =
     let s = e2 .before .before .before .before .before in
     not-ready (s .args .line) (s .args .book .now) (shape s) (s .pre) (s .args .lane) (s .args .count) (e2 .if2 .left) _ (sym (met .all-meet .ensures) ∙ not-true _ (c .before .if3 .taken)) (c .refuse3 .ensures)
 
-mul-own : tie.Need-mul-own
-mul-own c = search needs
-
 array-copy-out-own : tie.Need-array-copy-out-own
 array-copy-out-own c =
     let e2 = c .before .before .before in
     let s = e2 .before .before .before .before .before in
     index-in (s .args .line) (s .args .book .now) (shape s) (s .pre) (s .args .lane) (s .args .count) (e2 .if2 .left)
-
-is-idle-requires : tie.Need-is-idle-requires
-is-idle-requires c κs = search needs
-
-refuse-requires-4 : tie.Need-refuse-requires-4
-refuse-requires-4 c κs = search needs
 
 returns-4 : tie.Need-returns-4
 returns-4 c =
@@ -71,23 +50,11 @@ returns-4 c =
     not-idle (s .args .line) (s .args .book .now) (shape s) (s .pre) (s .args .lane) (s .args .count) (e2 .if2 .left) (sym (e3 .before .all-meet .ensures) ∙ not-false _ (e3 .if3 .left)) _
     (sym (asked .is-idle .ensures) ∙ not-true _ (c .before .if4 .taken)) (c .refuse4 .ensures)
 
-mul-lanes : tie.Need-mul-lanes
-mul-lanes c = search needs
-
 array-set-from-lanes : tie.Need-array-set-from-lanes
 array-set-from-lanes c =
     let e2 = c .before .before .before .before .before .before in
     let s = e2 .before .before .before .before .before in
     index-in (s .args .line) (s .args .book .now) (shape s) (s .pre) (s .args .lane) (s .args .count) (e2 .if2 .left)
-
-tally-of-requires : tie.Need-tally-of-requires
-tally-of-requires c κs = search needs
-
-fits-requires : tie.Need-fits-requires
-fits-requires c κs = search needs
-
-refuse-requires-5 : tie.Need-refuse-requires-5
-refuse-requires-5 c κs = search needs
 
 returns-5 : tie.Need-returns-5
 returns-5 c =
@@ -138,23 +105,23 @@ pub enter-spec : {M : Type 1} → statement M
 enter-spec =
     tie.close
     (tie.spec
-    refuse-requires
+    (λ c κs. search needs)
     returns
-    refuse-requires-2
+    (λ c κs. search needs)
     returns-2
-    all-meet-requires
-    refuse-requires-3
+    (λ c κs. search needs)
+    (λ c κs. search needs)
     returns-3
-    mul-own
+    (λ c. search needs)
     array-copy-out-own
-    is-idle-requires
-    refuse-requires-4
+    (λ c κs. search needs)
+    (λ c κs. search needs)
     returns-4
-    mul-lanes
+    (λ c. search needs)
     array-set-from-lanes
-    tally-of-requires
-    fits-requires
-    refuse-requires-5
+    (λ c κs. search needs)
+    (λ c κs. search needs)
+    (λ c κs. search needs)
     returns-5
     settle-requires
     returns-6)

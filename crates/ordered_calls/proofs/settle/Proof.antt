@@ -4,20 +4,11 @@ use borrow.Author.Tests.{eq-eqb, ne-eqb}
 use Rattle.ordered_calls.proofs.settle.Statement.{statement}
 use Rattle.ordered_calls.proofs.settle.Tie as tie
 
-cast-if1 : tie.Need-cast-if1
-cast-if1 c = search needs
-
 returns : tie.Need-returns
 returns c = rw (ne-eqb _ _ (c .if1 .taken))
-
-start-all-requires : tie.Need-start-all-requires
-start-all-requires c κs = search needs
-
-add-t12 : tie.Need-add-t12
-add-t12 c = search needs
 
 returns-2 : tie.Need-returns-2
 returns-2 c = rw (eq-eqb _ _ (c .before .before .before .if1 .left), c .before .start-all .ensures)
 
 pub settle-spec : {M : Type 1} → statement M
-settle-spec = tie.close (tie.spec cast-if1 returns start-all-requires add-t12 returns-2)
+settle-spec = tie.close (tie.spec (λ c. search needs) returns (λ c κs. search needs) (λ c. search needs) returns-2)

@@ -5,15 +5,6 @@ use borrow.Author.Needs.{needs}
 use Rattle.phase_tests.proofs.flag_for.Statement.{statement}
 use Rattle.phase_tests.proofs.flag_for.Tie as tie
 
-number-requires : tie.Need-number-requires
-number-requires c κs = search needs
-
-has-turn-requires : tie.Need-has-turn-requires
-has-turn-requires c κs = search needs
-
-either-requires : tie.Need-either-requires
-either-requires c κs = search needs
-
 -- what was tested is whether the lane is flagged
 flagged : (e : tie.After-either) → isFlagged (e .before .before .before .args .x) ≡ e .either .result
 flagged e = sym (e .either .ensures ∙ rw (e .before .before .number .ensures, e .before .has-turn .ensures))
@@ -26,4 +17,4 @@ returns-2 c = rw (flagged (c .before), c .if1 .left)
 
 pub flag-for-spec : {M : Type 1} → statement M
 flag-for-spec =
-    tie.close (tie.spec number-requires has-turn-requires either-requires returns returns-2)
+    tie.close (tie.spec (λ c κs. search needs) (λ c κs. search needs) (λ c κs. search needs) returns returns-2)

@@ -3,11 +3,8 @@ use borrow.Author.Needs.{needs}
 use Rattle.phase_tests.proofs.is_idle.Statement.{statement}
 use Rattle.phase_tests.proofs.is_idle.Tie as tie
 
-number-requires : tie.Need-number-requires
-number-requires c κs = search needs
-
 returns : tie.Need-returns
 returns c = rw (c .number .ensures)
 
 pub is-idle-spec : {M : Type 1} → statement M
-is-idle-spec = tie.close (tie.spec number-requires returns)
+is-idle-spec = tie.close (tie.spec (λ c κs. search needs) returns)

@@ -3,11 +3,8 @@ use borrow.Author.Needs.{needs}
 use Rattle.record_calls.proofs.find_at.Statement.{statement}
 use Rattle.record_calls.proofs.find_at.Tie as tie
 
-record-at-requires : tie.Need-record-at-requires
-record-at-requires c κs = search needs
-
 returns : tie.Need-returns
 returns c = rw (c .before .record-at .ensures)
 
 pub find-at-spec : {M : Type 1} → statement M
-find-at-spec = tie.close (tie.spec record-at-requires returns)
+find-at-spec = tie.close (tie.spec (λ c κs. search needs) returns)

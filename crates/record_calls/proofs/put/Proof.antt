@@ -6,20 +6,8 @@ use borrow.Author.Needs.{needs}
 use Rattle.record_calls.proofs.put.Statement.{statement}
 use Rattle.record_calls.proofs.put.Tie as tie
 
-holds-whole-requires : tie.Need-holds-whole-requires
-holds-whole-requires c κs = search needs
-
-refuse-requires : tie.Need-refuse-requires
-refuse-requires c κs = search needs
-
 returns : tie.Need-returns
 returns c = rw (← c .before .before .holds-whole .ensures, c .before .if1 .taken) (c .refuse .ensures)
-
-fits-requires : tie.Need-fits-requires
-fits-requires c κs = search needs
-
-refuse-requires-2 : tie.Need-refuse-requires-2
-refuse-requires-2 c κs = search needs
 
 returns-2 : tie.Need-returns-2
 returns-2 c =
@@ -42,11 +30,11 @@ pub put-spec : {M : Type 1} → statement M
 put-spec =
     tie.close
     (tie.spec
-    holds-whole-requires
-    refuse-requires
+    (λ c κs. search needs)
+    (λ c κs. search needs)
     returns
-    fits-requires
-    refuse-requires-2
+    (λ c κs. search needs)
+    (λ c κs. search needs)
     returns-2
     put-at-requires
     returns-3)

@@ -12,17 +12,11 @@ use Rattle.record_calls.proofs.put_at.Tie as tie
 end-is : (c : tie.After-position) → c .position .result .0 + 8 ≡ recordEnd (c .before .args .view) (c .before .args .place)
 end-is c = ap (λ (p : Position). p .0 + 8) (c .position .ensures)
 
-position-requires : tie.Need-position-requires
-position-requires c κs = search needs
-
 cast-end : tie.Need-cast-end
 cast-end c = omega (arith, end-is (c .before), c .before .before .pre, c .before .before .good)
 
 add-end : tie.Need-add-end
 add-end c = omega (arith, end-is (c .before), c .before .before .pre, c .before .before .good)
-
-larger-requires : tie.Need-larger-requires
-larger-requires c κs = search needs
 
 returns : tie.Need-returns
 returns c =
@@ -30,4 +24,4 @@ returns c =
     rw (← end-is p, ← p .position .ensures, ← c .larger .ensures)
 
 pub put-at-spec : {M : Type 1} → statement M
-put-at-spec = tie.close (tie.spec position-requires cast-end add-end larger-requires returns)
+put-at-spec = tie.close (tie.spec (λ c κs. search needs) cast-end add-end (λ c κs. search needs) returns)

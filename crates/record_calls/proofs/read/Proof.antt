@@ -11,27 +11,12 @@ use borrow.Author.Needs.{needs}
 use Rattle.record_calls.proofs.read.Statement.{statement}
 use Rattle.record_calls.proofs.read.Tie as tie
 
-enum-known-phase : tie.Need-enum-known-phase
-enum-known-phase c = search needs
-
-one-less-requires : tie.Need-one-less-requires
-one-less-requires c κs = search needs
-
 add-t10 : tie.Need-add-t10
 add-t10 c =
     let told = c .before .before .before in
     let s = told .before .before .before in
     let low = rw (told .phase .given .1) at (s .pre .0) in
     omega arith
-
-to-read-requires : tie.Need-to-read-requires
-to-read-requires c κs = search needs
-
-find-at-requires : tie.Need-find-at-requires
-find-at-requires c κs = search needs
-
-refuse-requires : tie.Need-refuse-requires
-refuse-requires c κs = search needs
 
 returns : tie.Need-returns
 returns c =
@@ -52,11 +37,11 @@ pub read-spec : {M : Type 1} → statement M
 read-spec =
     tie.close
     (tie.spec
-    enum-known-phase
-    one-less-requires
+    (λ c. search needs)
+    (λ c κs. search needs)
     add-t10
-    to-read-requires
-    find-at-requires
-    refuse-requires
+    (λ c κs. search needs)
+    (λ c κs. search needs)
+    (λ c κs. search needs)
     returns
     returns-2)

@@ -14,26 +14,11 @@ position-is : (c : tie.After-position-at) →
     c .position-at .result .0 + 8 ≡ recordEnd (c .before .before .before .before .args .view) (c .before .before .before .before .args .place)
 position-is c = ap (λ (p : Position). p .0 + 8) (c .position-at .ensures .0)
 
-shown-requires : tie.Need-shown-requires
-shown-requires c κs = search needs
-
-cast-position-at : tie.Need-cast-position-at
-cast-position-at c = search needs
-
-position-at-requires : tie.Need-position-at-requires
-position-at-requires c κs = search needs
-
-add-if1 : tie.Need-add-if1
-add-if1 c = search needs
-
 returns : tie.Need-returns
 returns c =
     let a = c .before .before .before .before .before .args in
     let past : a .size < recordEnd (a .view) (a .place) = omega (arith, position-is (c .before)) in
     rw (lt-leb _ _ past)
-
-load-record-requires : tie.Need-load-record-requires
-load-record-requires c κs = search needs
 
 returns-2 : tie.Need-returns-2
 returns-2 c =
@@ -45,10 +30,10 @@ pub record-at-spec : {M : Type 1} → statement M
 record-at-spec =
     tie.close
     (tie.spec
-    shown-requires
-    cast-position-at
-    position-at-requires
-    add-if1
+    (λ c κs. search needs)
+    (λ c. search needs)
+    (λ c κs. search needs)
+    (λ c. search needs)
     returns
-    load-record-requires
+    (λ c κs. search needs)
     returns-2)

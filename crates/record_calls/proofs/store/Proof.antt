@@ -5,16 +5,10 @@ use borrow.Author.Needs.{needs}
 use Rattle.record_calls.proofs.store.Statement.{statement}
 use Rattle.record_calls.proofs.store.Tie as tie
 
-enum-known-answer : tie.Need-enum-known-answer
-enum-known-answer c = search needs
-
 store-record-requires : tie.Need-store-record-requires
 store-record-requires c κs =
     let told = c .before .before in
     leb-true _ _ (rw (told .answer .given .1) at (told .before .before .before .pre))
-
-same-length : tie.Need-same-length
-same-length c = search needs
 
 returns : tie.Need-returns
 returns c =
@@ -28,4 +22,4 @@ returns-2 c =
 
 pub store-spec : {M : Type 1} → statement M
 store-spec =
-    tie.close (tie.spec enum-known-answer store-record-requires same-length returns returns-2)
+    tie.close (tie.spec (λ c. search needs) store-record-requires (λ c. search needs) returns returns-2)

@@ -12,12 +12,6 @@ use borrow.Author.Needs.{needs}
 use Rattle.record_calls.proofs.write.Statement.{statement}
 use Rattle.record_calls.proofs.write.Tie as tie
 
-enum-known-phase : tie.Need-enum-known-phase
-enum-known-phase c = search needs
-
-one-less-requires : tie.Need-one-less-requires
-one-less-requires c κs = search needs
-
 add-t9 : tie.Need-add-t9
 add-t9 c =
     let told = c .before .before .before in
@@ -25,17 +19,11 @@ add-t9 c =
     let low = rw (told .phase .given .1) at (s .pre .0) in
     omega arith
 
-to-write-requires : tie.Need-to-write-requires
-to-write-requires c κs = search needs
-
 put-at-requires : tie.Need-put-at-requires
 put-at-requires c κs =
     let told = c .before .before .before .before in
     let s = told .before .before in
     record-ends (s .args .view) (s .args .seen .capacity) (told .phase .given .0 .1 .0) (rw (told .phase .given .1) at (s .pre .1))
-
-refuse-requires : tie.Need-refuse-requires
-refuse-requires c κs = search needs
 
 returns : tie.Need-returns
 returns c =
@@ -56,11 +44,11 @@ pub write-spec : {M : Type 1} → statement M
 write-spec =
     tie.close
     (tie.spec
-    enum-known-phase
-    one-less-requires
+    (λ c. search needs)
+    (λ c κs. search needs)
     add-t9
-    to-write-requires
+    (λ c κs. search needs)
     put-at-requires
-    refuse-requires
+    (λ c κs. search needs)
     returns
     returns-2)

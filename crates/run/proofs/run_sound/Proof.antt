@@ -120,27 +120,9 @@ call-of e = e .before .before .lane .given .0 .1 .0
 by-lane : (e : tie.After-entry-of Inv-loop μ-loop) → scopeOf (event (entry-scope e)) ≡ Scope.Lane (lane-of e) (call-of e)
 by-lane e = sym (entry-scope e .scope-of .ensures) ∙ e .before .before .lane .given .1
 
-some-gathered-requires : tie.Need-some-gathered-requires Inv-loop μ-loop
-some-gathered-requires c κs = search needs
-
 loop-holds : tie.Need-loop-holds Inv-loop μ-loop
 loop-holds c = let s = start-of c in
     starts (s .args .sheet .now) (s .args .line) (s .args .book .now) (s .args .out .now) _ (good-of (s .args .line) (length (s .args .book .now)) (shape-of (s .args .line) (s .good .0)) (s .pre .0)) (c .some-gathered .ensures)
-
-event-at-requires : tie.Need-event-at-requires Inv-loop μ-loop
-event-at-requires c κs = search needs
-
-enum-known-reading : tie.Need-enum-known-reading Inv-loop μ-loop
-enum-known-reading c = search needs
-
-end-run-requires : tie.Need-end-run-requires Inv-loop μ-loop
-end-run-requires c κs = search needs
-
-same-length : tie.Need-same-length Inv-loop μ-loop
-same-length c = search needs
-
-same-length-2 : tie.Need-same-length-2 Inv-loop μ-loop
-same-length-2 c = search needs
 
 returns : tie.Need-returns Inv-loop μ-loop
 returns c =
@@ -152,12 +134,6 @@ returns c =
     (ends _ _ _ _ _ _ _ _ _ _ (l .loop .inv) (ev .event-at .result .reading) _ _ (m .match .keys2) (reading-is ev) (p .end-run .ensures .1 .0) (start l .pre .0)
     (omega (arith, p .end-run .ensures .1 .1, room l, l .loop .inv .out-length)))
 
-scope-of-requires : tie.Need-scope-of-requires Inv-loop μ-loop
-scope-of-requires c κs = search needs
-
-enum-known-call : tie.Need-enum-known-call Inv-loop μ-loop
-enum-known-call c = search needs
-
 call-line-requires : tie.Need-call-line-requires Inv-loop μ-loop
 call-line-requires c κs = is-sound _ _ _ _ _ _ _ _ _ _ (loop-at (event-of (c .before .before .before .before)) .loop .inv)
 
@@ -168,9 +144,6 @@ add-number : tie.Need-add-number Inv-loop μ-loop
 add-number c =
     let l = loop-at (event-of (c .before .before .before .before .before .before .before .before .before .before .before)) in
     omega (arith, l .loop .inv .numbered)
-
-some-gathered-requires-2 : tie.Need-some-gathered-requires-2 Inv-loop μ-loop
-some-gathered-requires-2 c κs = search needs
 
 loop-less : tie.Need-loop-less Inv-loop μ-loop
 loop-less c =
@@ -187,21 +160,6 @@ loop-again c =
     (ap (callEvent (stateOf (l .loop .next) (l .loop .book))) found ∙ met _ _ _ (k .call-line .ensures))
     _ _ (p .put-answer .ensures .0) (p .put-answer .ensures .1) _ (c .some-gathered2 .ensures) (k .call-line .kept .1 .0) (p .put-answer .kept .0) _ (at-is co)
 
-enum-known-lane : tie.Need-enum-known-lane Inv-loop μ-loop
-enum-known-lane c = search needs
-
-entry-of-requires : tie.Need-entry-of-requires Inv-loop μ-loop
-entry-of-requires c κs = search needs
-
-mul-own : tie.Need-mul-own Inv-loop μ-loop
-mul-own c = search needs
-
-element-copy-out-own : tie.Need-element-copy-out-own Inv-loop μ-loop
-element-copy-out-own c = search needs
-
-element-copy-out-t51 : tie.Need-element-copy-out-t51 Inv-loop μ-loop
-element-copy-out-t51 c = search needs
-
 decide-requires : tie.Need-decide-requires Inv-loop μ-loop
 decide-requires c κs =
     let e = c .before .before .before .before .before .before .before in
@@ -215,36 +173,6 @@ add-number-2 : tie.Need-add-number-2 Inv-loop μ-loop
 add-number-2 c =
     let l = loop-at (event-of (scope-at (c .before .before .before .before .before .before))) in
     omega (arith, l .loop .inv .numbered)
-
-element-write-next : tie.Need-element-write-next Inv-loop μ-loop
-element-write-next c = search needs
-
-mul-t42 : tie.Need-mul-t42 Inv-loop μ-loop
-mul-t42 c = search needs
-
-element-set-from-next : tie.Need-element-set-from-next Inv-loop μ-loop
-element-set-from-next c = search needs
-
-enum-known-wakes : tie.Need-enum-known-wakes Inv-loop μ-loop
-enum-known-wakes c = search needs
-
-entry-of-requires-2 : tie.Need-entry-of-requires-2 Inv-loop μ-loop
-entry-of-requires-2 c κs = search needs
-
-mul-waiting : tie.Need-mul-waiting Inv-loop μ-loop
-mul-waiting c = search needs
-
-element-copy-out-waiting : tie.Need-element-copy-out-waiting Inv-loop μ-loop
-element-copy-out-waiting c = search needs
-
-wake-lane-requires : tie.Need-wake-lane-requires Inv-loop μ-loop
-wake-lane-requires c κs = search needs
-
-mul-t62 : tie.Need-mul-t62 Inv-loop μ-loop
-mul-t62 c = search needs
-
-element-set-from-next-2 : tie.Need-element-set-from-next-2 Inv-loop μ-loop
-element-set-from-next-2 c = search needs
 
 loop-less-2 : tie.Need-loop-less-2 Inv-loop μ-loop
 loop-less-2 c =
@@ -264,9 +192,6 @@ loop-again-2 c =
     (d .decide .result) _ (seen-at e) (sees e) (d .decide .ensures) (e .entry-of .result) (w .wakes .given .0 .0) (wake .entry-of2 .result) (c .wake-lane .result .phase) (e .entry-of .ensures .0) (w .wakes .given .1) (wake .entry-of2 .ensures .0) (ap (λ (x : Lane). x .phase) (c .wake-lane .ensures)) in
     goes-on _ _ _ _ _ _ _ _ _ _ G (event co) (cursor co) (event-is co) (d .decide .result .answer) _ _ (done .called)
     _ _ (p .put-answer2 .ensures .0) (p .put-answer2 .ensures .1) _ (G .gathered ∙ sym (done .gathered)) (d .decide .kept .1 .1 .1 .1 .0) (p .put-answer2 .kept .0) _ (at-is co)
-
-enum-told : tie.Need-enum-told Inv-loop μ-loop
-enum-told c = search needs
 
 loop-less-3 : tie.Need-loop-less-3 Inv-loop μ-loop
 loop-less-3 c =
@@ -292,12 +217,6 @@ enum-told-2 c = search needs
 end-run-requires-2 : tie.Need-end-run-requires-2 Inv-loop μ-loop
 end-run-requires-2 c κs = omega (arith, room (loop-at (event-of (c .before .before .before))))
 
-same-length-3 : tie.Need-same-length-3 Inv-loop μ-loop
-same-length-3 c = search needs
-
-same-length-4 : tie.Need-same-length-4 Inv-loop μ-loop
-same-length-4 c = search needs
-
 returns-2 : tie.Need-returns-2 Inv-loop μ-loop
 returns-2 c =
     let told = c .before .before .before .before in
@@ -310,47 +229,47 @@ run-sound-spec =
     (tie.spec
     Inv-loop
     μ-loop
-    some-gathered-requires
+    (λ c κs. search needs)
     loop-holds
-    event-at-requires
-    enum-known-reading
-    end-run-requires
-    same-length
-    same-length-2
+    (λ c κs. search needs)
+    (λ c. search needs)
+    (λ c κs. search needs)
+    (λ c. search needs)
+    (λ c. search needs)
     returns
-    scope-of-requires
-    enum-known-call
+    (λ c κs. search needs)
+    (λ c. search needs)
     call-line-requires
     put-answer-requires
     add-number
-    some-gathered-requires-2
+    (λ c κs. search needs)
     loop-less
     loop-again
-    enum-known-lane
-    entry-of-requires
-    mul-own
-    element-copy-out-own
-    element-copy-out-t51
+    (λ c. search needs)
+    (λ c κs. search needs)
+    (λ c. search needs)
+    (λ c. search needs)
+    (λ c. search needs)
     decide-requires
     put-answer-requires-2
     add-number-2
-    element-write-next
-    mul-t42
-    element-set-from-next
-    enum-known-wakes
-    entry-of-requires-2
-    mul-waiting
-    element-copy-out-waiting
-    wake-lane-requires
-    mul-t62
-    element-set-from-next-2
+    (λ c. search needs)
+    (λ c. search needs)
+    (λ c. search needs)
+    (λ c. search needs)
+    (λ c κs. search needs)
+    (λ c. search needs)
+    (λ c. search needs)
+    (λ c κs. search needs)
+    (λ c. search needs)
+    (λ c. search needs)
     loop-less-2
     loop-again-2
-    enum-told
+    (λ c. search needs)
     loop-less-3
     loop-again-3
     enum-told-2
     end-run-requires-2
-    same-length-3
-    same-length-4
+    (λ c. search needs)
+    (λ c. search needs)
     returns-2)

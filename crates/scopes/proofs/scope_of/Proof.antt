@@ -6,81 +6,6 @@ use borrow.Author.Needs.{needs}
 use Rattle.scopes.proofs.scope_of.Statement.{statement}
 use Rattle.scopes.proofs.scope_of.Tie as tie
 
-enum-known-event : tie.Need-enum-known-event
-enum-known-event c = search needs
-
-on-line-requires : tie.Need-on-line-requires
-on-line-requires c κs = search needs
-
-enum-known-event-2 : tie.Need-enum-known-event-2
-enum-known-event-2 c = search needs
-
-by-lane-requires : tie.Need-by-lane-requires
-by-lane-requires c κs = search needs
-
-enum-known-event-3 : tie.Need-enum-known-event-3
-enum-known-event-3 c = search needs
-
-by-lane-requires-2 : tie.Need-by-lane-requires-2
-by-lane-requires-2 c κs = search needs
-
-enum-known-event-4 : tie.Need-enum-known-event-4
-enum-known-event-4 c = search needs
-
-by-lane-requires-3 : tie.Need-by-lane-requires-3
-by-lane-requires-3 c κs = search needs
-
-enum-known-event-5 : tie.Need-enum-known-event-5
-enum-known-event-5 c = search needs
-
-by-lane-requires-4 : tie.Need-by-lane-requires-4
-by-lane-requires-4 c κs = search needs
-
-enum-known-event-6 : tie.Need-enum-known-event-6
-enum-known-event-6 c = search needs
-
-by-lane-requires-5 : tie.Need-by-lane-requires-5
-by-lane-requires-5 c κs = search needs
-
-enum-known-event-7 : tie.Need-enum-known-event-7
-enum-known-event-7 c = search needs
-
-by-lane-requires-6 : tie.Need-by-lane-requires-6
-by-lane-requires-6 c κs = search needs
-
-enum-known-event-8 : tie.Need-enum-known-event-8
-enum-known-event-8 c = search needs
-
-by-lane-requires-7 : tie.Need-by-lane-requires-7
-by-lane-requires-7 c κs = search needs
-
-enum-known-event-9 : tie.Need-enum-known-event-9
-enum-known-event-9 c = search needs
-
-by-lane-requires-8 : tie.Need-by-lane-requires-8
-by-lane-requires-8 c κs = search needs
-
-enum-known-event-10 : tie.Need-enum-known-event-10
-enum-known-event-10 c = search needs
-
-on-line-requires-2 : tie.Need-on-line-requires-2
-on-line-requires-2 c κs = search needs
-
-enum-known-event-11 : tie.Need-enum-known-event-11
-enum-known-event-11 c = search needs
-
-on-line-requires-3 : tie.Need-on-line-requires-3
-on-line-requires-3 c κs = search needs
-
-enum-known-event-12 : tie.Need-enum-known-event-12
-enum-known-event-12 c = search needs
-
-on-line-requires-4 : tie.Need-on-line-requires-4
-on-line-requires-4 c κs = search needs
-
-enum-told : tie.Need-enum-told
-enum-told c = search needs
-
 returns : tie.Need-returns
 returns c = rw (c .before .before .event .given .1) (c .on-line .ensures)
 
@@ -121,38 +46,35 @@ returns-12 c =
     let fits : SFits w32 z = record { sfits = c .before .known-told12 .given .1 .0 .1 } in
     rw (told .event12 .given .1) (rw (toZ-ofZ fits) at (c .on-line4 .ensures))
 
-returns-13 : tie.Need-returns-13
-returns-13 c = search needs
-
 pub scope-of-spec : {M : Type 1} → statement M
 scope-of-spec =
     tie.close
     (tie.spec
-    enum-known-event
-    on-line-requires
-    enum-known-event-2
-    by-lane-requires
-    enum-known-event-3
-    by-lane-requires-2
-    enum-known-event-4
-    by-lane-requires-3
-    enum-known-event-5
-    by-lane-requires-4
-    enum-known-event-6
-    by-lane-requires-5
-    enum-known-event-7
-    by-lane-requires-6
-    enum-known-event-8
-    by-lane-requires-7
-    enum-known-event-9
-    by-lane-requires-8
-    enum-known-event-10
-    on-line-requires-2
-    enum-known-event-11
-    on-line-requires-3
-    enum-known-event-12
-    on-line-requires-4
-    enum-told
+    (λ c. search needs)
+    (λ c κs. search needs)
+    (λ c. search needs)
+    (λ c κs. search needs)
+    (λ c. search needs)
+    (λ c κs. search needs)
+    (λ c. search needs)
+    (λ c κs. search needs)
+    (λ c. search needs)
+    (λ c κs. search needs)
+    (λ c. search needs)
+    (λ c κs. search needs)
+    (λ c. search needs)
+    (λ c κs. search needs)
+    (λ c. search needs)
+    (λ c κs. search needs)
+    (λ c. search needs)
+    (λ c κs. search needs)
+    (λ c. search needs)
+    (λ c κs. search needs)
+    (λ c. search needs)
+    (λ c κs. search needs)
+    (λ c. search needs)
+    (λ c κs. search needs)
+    (λ c. search needs)
     returns
     returns-2
     returns-3
@@ -165,4 +87,4 @@ scope-of-spec =
     returns-10
     returns-11
     returns-12
-    returns-13)
+    (λ c. search needs))

@@ -6,19 +6,10 @@ use borrow.Author.Needs.{needs}
 use Rattle.setup_calls.proofs.open.Statement.{statement}
 use Rattle.setup_calls.proofs.open.Tie as tie
 
-refuse-requires : tie.Need-refuse-requires
-refuse-requires c κs = search needs
-
 returns : tie.Need-returns
 returns c =
     let s = c .before .before .before .before in
     open-5 (s .args .line) (s .args .book .now) (s .pre) (s .args .lanes) (s .args .capacity) (c .refuse .result) (c .before .if1 .taken) (c .refuse .ensures)
-
-lanes-ok-requires : tie.Need-lanes-ok-requires
-lanes-ok-requires c κs = search needs
-
-refuse-requires-2 : tie.Need-refuse-requires-2
-refuse-requires-2 c κs = search needs
 
 returns-2 : tie.Need-returns-2
 returns-2 c =
@@ -26,12 +17,6 @@ returns-2 c =
     let s = e1 .before .before .before in
     open-6 (s .args .line) (s .args .book .now) (s .pre) (s .args .lanes) (s .args .capacity) (e1 .if1 .left) (c .refuse2 .result)
     (sym (c .before .before .lanes-ok .ensures) ∙ not-true _ (c .before .if2 .taken)) (c .refuse2 .ensures)
-
-capacity-ok-requires : tie.Need-capacity-ok-requires
-capacity-ok-requires c κs = search needs
-
-refuse-requires-3 : tie.Need-refuse-requires-3
-refuse-requires-3 c κs = search needs
 
 returns-3 : tie.Need-returns-3
 returns-3 c =
@@ -47,12 +32,6 @@ zero-first-requires c κs =
     let s = e3 .before .before .before .before .before .before .before in
     capacity-held (s .args .capacity) _ (sym (e3 .before .capacity-ok .ensures) ∙ not-false _ (e3 .if3 .left))
 
-opened-requires : tie.Need-opened-requires
-opened-requires c κs = search needs
-
-same-length : tie.Need-same-length
-same-length c = search needs
-
 returns-4 : tie.Need-returns-4
 returns-4 c =
     let zeroed = c .before .before .before in
@@ -67,15 +46,15 @@ pub open-spec : {M : Type 1} → statement M
 open-spec =
     tie.close
     (tie.spec
-    refuse-requires
+    (λ c κs. search needs)
     returns
-    lanes-ok-requires
-    refuse-requires-2
+    (λ c κs. search needs)
+    (λ c κs. search needs)
     returns-2
-    capacity-ok-requires
-    refuse-requires-3
+    (λ c κs. search needs)
+    (λ c κs. search needs)
     returns-3
     zero-first-requires
-    opened-requires
-    same-length
+    (λ c κs. search needs)
+    (λ c. search needs)
     returns-4)

@@ -13,9 +13,6 @@ use borrow.Author.Needs.{needs}
 use Rattle.setup_calls.proofs.seek.Statement.{statement}
 use Rattle.setup_calls.proofs.seek.Tie as tie
 
-refuse-requires : tie.Need-refuse-requires
-refuse-requires c κs = search needs
-
 returns : tie.Need-returns
 returns c =
     let s = c .before .before .before .before in
@@ -23,20 +20,11 @@ returns c =
     let book = s .args .book .now in
     refused-4 l book (s .pre) _ (seek-chain nextLane (stateOf l book) (s .args .whence) (s .args .offset)) (c .before .if1 .taken) (c .refuse .ensures)
 
-refuse-requires-2 : tie.Need-refuse-requires-2
-refuse-requires-2 c κs = search needs
-
 returns-2 : tie.Need-returns-2
 returns-2 c =
     let e1 = c .before .before in
     let s = e1 .before .before .before in
     seek-9 (s .args .line) (s .args .book .now) (s .pre) (e1 .if1 .left) (s .args .whence) (s .args .offset) (c .refuse2 .result) (c .before .if2 .taken) (c .refuse2 .ensures)
-
-all-meet-requires : tie.Need-all-meet-requires
-all-meet-requires c κs = search needs
-
-refuse-requires-3 : tie.Need-refuse-requires-3
-refuse-requires-3 c κs = search needs
 
 returns-3 : tie.Need-returns-3
 returns-3 c =
@@ -45,24 +33,6 @@ returns-3 c =
     let s = e1 .before .before .before in
     seek-11 (s .args .line) (s .args .book .now) (s .pre) (e1 .if1 .left) (s .args .whence) (s .args .offset) (e2 .if2 .left) (c .refuse3 .result)
     (sym (c .before .before .all-meet .ensures) ∙ not-true _ (c .before .if3 .taken)) (c .refuse3 .ensures)
-
-end-of-book-requires : tie.Need-end-of-book-requires
-end-of-book-requires c κs = search needs
-
-base-requires : tie.Need-base-requires
-base-requires c κs = search needs
-
-moved-by-requires : tie.Need-moved-by-requires
-moved-by-requires c κs = search needs
-
-enum-known-place : tie.Need-enum-known-place
-enum-known-place c = search needs
-
-enum-told : tie.Need-enum-told
-enum-told c = search needs
-
-refuse-requires-4 : tie.Need-refuse-requires-4
-refuse-requires-4 c κs = search needs
 
 returns-4 : tie.Need-returns-4
 returns-4 c =
@@ -92,18 +62,18 @@ pub seek-spec : {M : Type 1} → statement M
 seek-spec =
     tie.close
     (tie.spec
-    refuse-requires
+    (λ c κs. search needs)
     returns
-    refuse-requires-2
+    (λ c κs. search needs)
     returns-2
-    all-meet-requires
-    refuse-requires-3
+    (λ c κs. search needs)
+    (λ c κs. search needs)
     returns-3
-    end-of-book-requires
-    base-requires
-    moved-by-requires
-    enum-known-place
-    enum-told
-    refuse-requires-4
+    (λ c κs. search needs)
+    (λ c κs. search needs)
+    (λ c κs. search needs)
+    (λ c. search needs)
+    (λ c. search needs)
+    (λ c κs. search needs)
     returns-4
     returns-5)

@@ -10,24 +10,12 @@ use borrow.Author.Needs.{needs}
 use Rattle.setup_calls.proofs.set_view.Statement.{statement}
 use Rattle.setup_calls.proofs.set_view.Tie as tie
 
-refuse-requires : tie.Need-refuse-requires
-refuse-requires c κs = search needs
-
 returns : tie.Need-returns
 returns c =
     let s = c .before .before .before .before in
     let l = s .args .line in
     let book = s .args .book .now in
     refused-4 l book (s .pre) _ (view-chain nextLane (stateOf l book) (s .args .displacement) (s .args .extent) (s .args .used) (s .args .blocks)) (c .before .if1 .taken) (c .refuse .ensures)
-
-view-of-requires : tie.Need-view-of-requires
-view-of-requires c κs = search needs
-
-is-ok-requires : tie.Need-is-ok-requires
-is-ok-requires c κs = search needs
-
-refuse-requires-2 : tie.Need-refuse-requires-2
-refuse-requires-2 c κs = search needs
 
 returns-2 : tie.Need-returns-2
 returns-2 c =
@@ -36,12 +24,6 @@ returns-2 c =
     let s = e1 .before .before .before in
     view-10 (s .args .line) (s .args .book .now) (s .pre) (e1 .if1 .left) (s .args .displacement) (s .args .extent) (s .args .used) (s .args .blocks) (made .view-of .result) (made .view-of .ensures) (c .refuse2 .result)
     (sym (c .before .before .is-ok .ensures) ∙ not-true _ (c .before .if2 .taken)) (c .refuse2 .ensures)
-
-all-meet-requires : tie.Need-all-meet-requires
-all-meet-requires c κs = search needs
-
-refuse-requires-3 : tie.Need-refuse-requires-3
-refuse-requires-3 c κs = search needs
 
 returns-3 : tie.Need-returns-3
 returns-3 c =
@@ -65,13 +47,13 @@ pub set-view-spec : {M : Type 1} → statement M
 set-view-spec =
     tie.close
     (tie.spec
-    refuse-requires
+    (λ c κs. search needs)
     returns
-    view-of-requires
-    is-ok-requires
-    refuse-requires-2
+    (λ c κs. search needs)
+    (λ c κs. search needs)
+    (λ c κs. search needs)
     returns-2
-    all-meet-requires
-    refuse-requires-3
+    (λ c κs. search needs)
+    (λ c κs. search needs)
     returns-3
     returns-4)

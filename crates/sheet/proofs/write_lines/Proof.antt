@@ -14,27 +14,6 @@ Inv-loop sheet at₀ count₀ at count = (count ≤ at) × (at ≤ length sheet)
 abbrev μ-loop : tie.MeasureT-loop
 μ-loop sheet at₀ count₀ at count = length sheet - at
 
-loop-holds : tie.Need-loop-holds Inv-loop μ-loop
-loop-holds c = search needs
-
-read-event-requires : tie.Need-read-event-requires Inv-loop μ-loop
-read-event-requires c κs = search needs
-
-enum-known-reading : tie.Need-enum-known-reading Inv-loop μ-loop
-enum-known-reading c = search needs
-
-write-last-requires : tie.Need-write-last-requires Inv-loop μ-loop
-write-last-requires c κs = search needs
-
-returns : tie.Need-returns Inv-loop μ-loop
-returns c = search needs
-
-show-event-requires : tie.Need-show-event-requires Inv-loop μ-loop
-show-event-requires c κs = search needs
-
-returns-2 : tie.Need-returns-2 Inv-loop μ-loop
-returns-2 c = search needs
-
 add-count : tie.Need-add-count Inv-loop μ-loop
 add-count c =
     let told = c .before .before .before in
@@ -71,13 +50,13 @@ write-lines-spec =
     (tie.spec
     Inv-loop
     μ-loop
-    loop-holds
-    read-event-requires
-    enum-known-reading
-    write-last-requires
-    returns
-    show-event-requires
-    returns-2
+    (λ c. search needs)
+    (λ c κs. search needs)
+    (λ c. search needs)
+    (λ c κs. search needs)
+    (λ c. search needs)
+    (λ c κs. search needs)
+    (λ c. search needs)
     add-count
     loop-less
     loop-again)

@@ -5,14 +5,8 @@ use borrow.Author.Needs.{needs}
 use Rattle.soundness.proofs.busy_ok.Statement.{statement}
 use Rattle.soundness.proofs.busy_ok.Tie as tie
 
-all-meet-requires : tie.Need-all-meet-requires
-all-meet-requires c κs = search needs
-
 returns : tie.Need-returns
 returns c = rw (sym (c .before .all-meet .ensures) ∙ not-true _ (c .if1 .taken))
-
-regions-apart-requires : tie.Need-regions-apart-requires
-regions-apart-requires c κs = search needs
 
 returns-2 : tie.Need-returns-2
 returns-2 c =
@@ -20,4 +14,4 @@ returns-2 c =
     rw (sym (e1 .before .all-meet .ensures) ∙ not-false _ (e1 .if1 .left)) (c .regions-apart .ensures)
 
 pub busy-ok-spec : {M : Type 1} → statement M
-busy-ok-spec = tie.close (tie.spec all-meet-requires returns regions-apart-requires returns-2)
+busy-ok-spec = tie.close (tie.spec (λ c κs. search needs) returns (λ c κs. search needs) returns-2)

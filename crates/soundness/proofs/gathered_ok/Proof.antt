@@ -31,23 +31,14 @@ not-all c =
     let fewer = rw (c .before .before .index .ensures, e1 .before .before .tally-of .ensures) at (c .if3 .left) in
     lt-ltb _ _ fewer
 
-tally-of-requires : tie.Need-tally-of-requires
-tally-of-requires c κs = search needs
-
 returns : tie.Need-returns
 returns c =
     let l = c .before .before .before .before .before .before .args .line in
     let none = rw (c .before .before .tally-of .ensures) at (c .if1 .taken) in
     rw (any-count (on isGathered) (l .lane), none)
 
-all-meet-requires : tie.Need-all-meet-requires
-all-meet-requires c κs = search needs
-
 returns-2 : tie.Need-returns-2
 returns-2 c = rw (some-gathered (c .before .before), sym (c .before .all-meet .ensures) ∙ not-true _ (c .if2 .taken))
-
-index-requires : tie.Need-index-requires
-index-requires c κs = search needs
 
 returns-3 : tie.Need-returns-3
 returns-3 c =
@@ -55,9 +46,6 @@ returns-3 c =
     let e1 = e2 .before .before in
     let every-one = rw (c .before .before .index .ensures, e1 .before .before .tally-of .ensures) at (c .if3 .taken) in
     rw (some-gathered e1, settled e2, le-ltb _ _ every-one)
-
-fits-requires : tie.Need-fits-requires
-fits-requires c κs = search needs
 
 returns-4 : tie.Need-returns-4
 returns-4 c =
@@ -71,11 +59,11 @@ pub gathered-ok-spec : {M : Type 1} → statement M
 gathered-ok-spec =
     tie.close
     (tie.spec
-    tally-of-requires
+    (λ c κs. search needs)
     returns
-    all-meet-requires
+    (λ c κs. search needs)
     returns-2
-    index-requires
+    (λ c κs. search needs)
     returns-3
-    fits-requires
+    (λ c κs. search needs)
     returns-4)

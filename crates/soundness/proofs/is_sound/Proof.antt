@@ -32,15 +32,9 @@ gathered c = sym (c .before .gathered-ok .ensures) ∙ not-false _ (c .if4 .left
 busy : (c : tie.Else5) → busyOk (line-in (c .before .before .before .before .before .before)) ≡ true
 busy c = sym (c .before .busy-ok .ensures) ∙ not-false _ (c .if5 .left)
 
-numbers-ok-requires : tie.Need-numbers-ok-requires
-numbers-ok-requires c κs = search needs
-
 returns : tie.Need-returns
 unfolding sound
 returns c = rw (sym (c .before .numbers-ok .ensures) ∙ not-true _ (c .if1 .taken))
-
-flags-ok-requires : tie.Need-flags-ok-requires
-flags-ok-requires c κs = search needs
 
 returns-2 : tie.Need-returns-2
 unfolding sound
@@ -55,18 +49,12 @@ returns-3 c =
     let e2 = c .before .before in
     rw (numbers (at-numbers e2), flags e2, sym (c .before .turn-ok .ensures) ∙ not-true _ (c .if3 .taken))
 
-gathered-ok-requires : tie.Need-gathered-ok-requires
-gathered-ok-requires c κs = search needs
-
 returns-4 : tie.Need-returns-4
 unfolding sound
 returns-4 c =
     let e3 = c .before .before in
     let e2 = e3 .before .before in
     rw (numbers (at-numbers e2), flags e2, turn e3, sym (c .before .gathered-ok .ensures) ∙ not-true _ (c .if4 .taken))
-
-busy-ok-requires : tie.Need-busy-ok-requires
-busy-ok-requires c κs = search needs
 
 returns-5 : tie.Need-returns-5
 unfolding sound
@@ -92,15 +80,15 @@ pub is-sound-spec : {M : Type 1} → statement M
 is-sound-spec =
     tie.close
     (tie.spec
-    numbers-ok-requires
+    (λ c κs. search needs)
     returns
-    flags-ok-requires
+    (λ c κs. search needs)
     returns-2
     turn-ok-requires
     returns-3
-    gathered-ok-requires
+    (λ c κs. search needs)
     returns-4
-    busy-ok-requires
+    (λ c κs. search needs)
     returns-5
     past-ok-requires
     returns-6)

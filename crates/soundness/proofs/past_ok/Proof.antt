@@ -5,16 +5,10 @@ use borrow.Author.Needs.{needs}
 use Rattle.soundness.proofs.past_ok.Statement.{statement}
 use Rattle.soundness.proofs.past_ok.Tie as tie
 
-index-requires : tie.Need-index-requires
-index-requires c κs = search needs
-
-all-meet-requires : tie.Need-all-meet-requires
-all-meet-requires c κs = search needs
-
 returns : tie.Need-returns
 returns c =
     let s = c .before .before in
     rw (c .before .index .ensures) at (c .all-meet .ensures) ∙ past-idle (s .args .line) (s .pre)
 
 pub past-ok-spec : {M : Type 1} → statement M
-past-ok-spec = tie.close (tie.spec index-requires all-meet-requires returns)
+past-ok-spec = tie.close (tie.spec (λ c κs. search needs) (λ c κs. search needs) returns)

@@ -23,9 +23,6 @@ flag-up c =
     let positive : 0 < countPass (on isFlagged) (line-at c .lane) = omega arith in
     raised-any (line-at c) (c .before .before .before .before .pre) ∙ lt-ltb 0 _ positive
 
-tally-of-requires : tie.Need-tally-of-requires
-tally-of-requires c κs = search needs
-
 returns : tie.Need-returns
 returns c =
     let s = c .before .before .before .before in
@@ -38,9 +35,6 @@ returns-2 c =
     let several = rw (e1 .before .before .tally-of .ensures) at (c .if2 .taken) in
     rw (flag-up e1, ne-eqb _ 1 several)
 
-all-meet-requires : tie.Need-all-meet-requires
-all-meet-requires c κs = search needs
-
 returns-3 : tie.Need-returns-3
 returns-3 c =
     let e1 = c .before .before .before in
@@ -48,4 +42,4 @@ returns-3 c =
     rw (flag-up e1, eq-eqb _ 1 single) (c .all-meet .ensures)
 
 pub turn-ok-spec : {M : Type 1} → statement M
-turn-ok-spec = tie.close (tie.spec tally-of-requires returns returns-2 all-meet-requires returns-3)
+turn-ok-spec = tie.close (tie.spec (λ c κs. search needs) returns returns-2 (λ c κs. search needs) returns-3)

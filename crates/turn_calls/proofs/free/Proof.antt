@@ -3,20 +3,8 @@ use borrow.Author.Needs.{needs}
 use Rattle.turn_calls.proofs.free.Statement.{statement}
 use Rattle.turn_calls.proofs.free.Tie as tie
 
-holds-whole-requires : tie.Need-holds-whole-requires
-holds-whole-requires c κs = search needs
-
-refuse-requires : tie.Need-refuse-requires
-refuse-requires c κs = search needs
-
 returns : tie.Need-returns
 returns c = rw (← c .before .before .holds-whole .ensures, c .before .if1 .taken) (c .refuse .ensures)
-
-next-lane-requires : tie.Need-next-lane-requires
-next-lane-requires c κs = search needs
-
-release-requires : tie.Need-release-requires
-release-requires c κs = search needs
 
 returns-2 : tie.Need-returns-2
 returns-2 c =
@@ -27,9 +15,9 @@ pub free-spec : {M : Type 1} → statement M
 free-spec =
     tie.close
     (tie.spec
-    holds-whole-requires
-    refuse-requires
+    (λ c κs. search needs)
+    (λ c κs. search needs)
     returns
-    next-lane-requires
-    release-requires
+    (λ c κs. search needs)
+    (λ c κs. search needs)
     returns-2)

@@ -7,21 +7,6 @@ use borrow.Author.Needs.{needs}
 use Rattle.turn_calls.proofs.receive.Statement.{statement}
 use Rattle.turn_calls.proofs.receive.Tie as tie
 
-enum-known-phase : tie.Need-enum-known-phase
-enum-known-phase c = search needs
-
-hold-requires : tie.Need-hold-requires
-hold-requires c κs = search needs
-
-enum-told : tie.Need-enum-told
-enum-told c = search needs
-
-refuse-requires : tie.Need-refuse-requires
-refuse-requires c κs = search needs
-
-refuse-requires-2 : tie.Need-refuse-requires-2
-refuse-requires-2 c κs = search needs
-
 returns : tie.Need-returns
 returns c = rw (c .before .before .phase .given .1) (c .hold .ensures)
 
@@ -39,11 +24,11 @@ pub receive-spec : {M : Type 1} → statement M
 receive-spec =
     tie.close
     (tie.spec
-    enum-known-phase
-    hold-requires
-    enum-told
-    refuse-requires
-    refuse-requires-2
+    (λ c. search needs)
+    (λ c κs. search needs)
+    (λ c. search needs)
+    (λ c κs. search needs)
+    (λ c κs. search needs)
     returns
     returns-2
     returns-3)

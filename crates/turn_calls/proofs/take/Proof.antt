@@ -7,16 +7,10 @@ use borrow.Author.Needs.{needs}
 use Rattle.turn_calls.proofs.take.Statement.{statement}
 use Rattle.turn_calls.proofs.take.Tie as tie
 
-enum-known-phase : tie.Need-enum-known-phase
-enum-known-phase c = search needs
-
 take-by-requires : tie.Need-take-by-requires
 take-by-requires c κs =
     let told = c .before in
     rw (told .phase .given .1) at (told .before .before .pre)
-
-refuse-requires : tie.Need-refuse-requires
-refuse-requires c κs = search needs
 
 returns : tie.Need-returns
 returns c =
@@ -31,4 +25,4 @@ returns-2 c =
 
 pub take-spec : {M : Type 1} → statement M
 take-spec =
-    tie.close (tie.spec enum-known-phase take-by-requires refuse-requires returns returns-2)
+    tie.close (tie.spec (λ c. search needs) take-by-requires (λ c κs. search needs) returns returns-2)

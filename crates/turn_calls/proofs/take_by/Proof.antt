@@ -3,24 +3,6 @@ use borrow.Author.Needs.{needs}
 use Rattle.turn_calls.proofs.take_by.Statement.{statement}
 use Rattle.turn_calls.proofs.take_by.Tie as tie
 
-enum-told : tie.Need-enum-told
-enum-told c = search needs
-
-take-to-write-requires : tie.Need-take-to-write-requires
-take-to-write-requires c κs = search needs
-
-enum-told-2 : tie.Need-enum-told-2
-enum-told-2 c = search needs
-
-take-to-read-requires : tie.Need-take-to-read-requires
-take-to-read-requires c κs = search needs
-
-enum-told-3 : tie.Need-enum-told-3
-enum-told-3 c = search needs
-
-refuse-requires : tie.Need-refuse-requires
-refuse-requires c κs = search needs
-
 returns : tie.Need-returns
 returns c = rw (c .before .enum-told .given .1) (c .take-to-write .ensures)
 
@@ -34,12 +16,12 @@ pub take-by-spec : {M : Type 1} → statement M
 take-by-spec =
     tie.close
     (tie.spec
-    enum-told
-    take-to-write-requires
-    enum-told-2
-    take-to-read-requires
-    enum-told-3
-    refuse-requires
+    (λ c. search needs)
+    (λ c κs. search needs)
+    (λ c. search needs)
+    (λ c κs. search needs)
+    (λ c. search needs)
+    (λ c κs. search needs)
     returns
     returns-2
     returns-3)

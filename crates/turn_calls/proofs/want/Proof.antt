@@ -4,38 +4,17 @@ use borrow.Author.Needs.{needs}
 use Rattle.turn_calls.proofs.want.Statement.{statement}
 use Rattle.turn_calls.proofs.want.Tie as tie
 
-refuse-requires : tie.Need-refuse-requires
-refuse-requires c κs = search needs
-
 returns : tie.Need-returns
 returns c = rw (lt-ltb _ _ (c .before .if1 .taken)) (c .refuse .ensures)
 
-refuse-requires-2 : tie.Need-refuse-requires-2
-refuse-requires-2 c κs = search needs
-
 returns-2 : tie.Need-returns-2
 returns-2 c = rw (le-ltb _ _ (c .before .before .if1 .left), c .before .if2 .taken) (c .refuse2 .ensures)
-
-is-idle-requires : tie.Need-is-idle-requires
-is-idle-requires c κs = search needs
-
-refuse-requires-3 : tie.Need-refuse-requires-3
-refuse-requires-3 c κs = search needs
 
 returns-3 : tie.Need-returns-3
 returns-3 c =
     let h = c .before .before in
     let g = h .before in
     rw (le-ltb _ _ (g .before .if1 .left), g .if2 .left, ← h .is-idle .ensures, c .before .if3 .taken) (c .refuse3 .ensures)
-
-others-down-requires : tie.Need-others-down-requires
-others-down-requires c κs = search needs
-
-purpose-of-requires : tie.Need-purpose-of-requires
-purpose-of-requires c κs = search needs
-
-raise-requires : tie.Need-raise-requires
-raise-requires c κs = search needs
 
 returns-4 : tie.Need-returns-4
 returns-4 c =
@@ -49,14 +28,14 @@ pub want-spec : {M : Type 1} → statement M
 want-spec =
     tie.close
     (tie.spec
-    refuse-requires
+    (λ c κs. search needs)
     returns
-    refuse-requires-2
+    (λ c κs. search needs)
     returns-2
-    is-idle-requires
-    refuse-requires-3
+    (λ c κs. search needs)
+    (λ c κs. search needs)
     returns-3
-    others-down-requires
-    purpose-of-requires
-    raise-requires
+    (λ c κs. search needs)
+    (λ c κs. search needs)
+    (λ c κs. search needs)
     returns-4)

@@ -20,9 +20,6 @@ abbrev μ-loop : tie.MeasureT-loop
 loop-holds : tie.Need-loop-holds Inv-loop μ-loop
 loop-holds c = refl
 
-flag-but-requires : tie.Need-flag-but-requires Inv-loop μ-loop
-flag-but-requires c κs = search needs
-
 returns : tie.Need-returns Inv-loop μ-loop
 returns c =
     let loop = c .before .before .before in
@@ -32,12 +29,6 @@ returns c =
     let room : loop .loop .i < length down = omega (arith, length-set (a .flags .now) (a .own) 0, c .before .before .loop-test .taken) in
     let flag = c .before .flag-but .ensures in
     sym (all-stop (eqb 0) down (loop .loop .i) 0 room (ne-eqb _ _ (λ e. c .if1 .taken (flag ∙ sym e)))) ∙ inv
-
-add-i : tie.Need-add-i Inv-loop μ-loop
-add-i c = search needs
-
-loop-less : tie.Need-loop-less Inv-loop μ-loop
-loop-less c = search needs
 
 loop-again : tie.Need-loop-again Inv-loop μ-loop
 loop-again c =
@@ -64,9 +55,9 @@ down-but-spec =
     Inv-loop
     μ-loop
     loop-holds
-    flag-but-requires
+    (λ c κs. search needs)
     returns
-    add-i
-    loop-less
+    (λ c. search needs)
+    (λ c. search needs)
     loop-again
     returns-2)

@@ -11,13 +11,10 @@ returns c =
     let a = c .before .before .args in
     rw (c .if1 .taken) (sym (own-down (a .flags .now) (a .own)))
 
-flag-at-requires : tie.Need-flag-at-requires
-flag-at-requires c κs = search needs
-
 returns-2 : tie.Need-returns-2
 returns-2 c =
     let a = c .before .before .before .args in
     c .flag-at .ensures ∙ sym (getD-set-other (a .flags .now) (a .own) (a .i) 0 0 (c .before .if1 .left))
 
 pub flag-but-spec : {M : Type 1} → statement M
-flag-but-spec = tie.close (tie.spec returns flag-at-requires returns-2)
+flag-but-spec = tie.close (tie.spec returns (λ c κs. search needs) returns-2)

@@ -5,30 +5,6 @@ use borrow.Author.Needs.{needs}
 use Rattle.waitlist.proofs.next_lane.Statement.{statement}
 use Rattle.waitlist.proofs.next_lane.Tie as tie
 
-index-requires : tie.Need-index-requires
-index-requires c κs = search needs
-
-index-requires-2 : tie.Need-index-requires-2
-index-requires-2 c κs = search needs
-
-add-first-raised : tie.Need-add-first-raised
-add-first-raised c = search needs
-
-first-raised-requires : tie.Need-first-raised-requires
-first-raised-requires c κs = search needs
-
-enum-known-above : tie.Need-enum-known-above
-enum-known-above c = search needs
-
-enum-told : tie.Need-enum-told
-enum-told c = search needs
-
-least-requires : tie.Need-least-requires
-least-requires c κs = search needs
-
-first-raised-requires-2 : tie.Need-first-raised-requires-2
-first-raised-requires-2 c κs = search needs
-
 returns : tie.Need-returns
 returns c =
     let s = c .before .before .before in
@@ -48,13 +24,13 @@ pub next-lane-spec : {M : Type 1} → statement M
 next-lane-spec =
     tie.close
     (tie.spec
-    index-requires
-    index-requires-2
-    add-first-raised
-    first-raised-requires
-    enum-known-above
-    enum-told
-    least-requires
-    first-raised-requires-2
+    (λ c κs. search needs)
+    (λ c κs. search needs)
+    (λ c. search needs)
+    (λ c κs. search needs)
+    (λ c. search needs)
+    (λ c. search needs)
+    (λ c κs. search needs)
+    (λ c κs. search needs)
     returns
     returns-2)

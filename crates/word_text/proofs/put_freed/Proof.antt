@@ -7,9 +7,6 @@ use borrow.Author.Needs.{needs}
 use Rattle.word_text.proofs.put_freed.Statement.{statement}
 use Rattle.word_text.proofs.put_freed.Tie as tie
 
-slice-aggregate-put-word : tie.Need-slice-aggregate-put-word
-slice-aggregate-put-word c = search needs
-
 put-word-requires : tie.Need-put-word-requires
 put-word-requires c κs =
     let s = c .before .before .before in
@@ -21,9 +18,6 @@ put-wakes-requires c κs =
     let s = call .before .before .before .before in
     omega (arith, s .pre, wakes-length (ascii "freed") (s .args .wakes), past (ascii "freed") _ (call .put-word .ensures))
 
-same-length : tie.Need-same-length
-same-length c = search needs
-
 returns : tie.Need-returns
 returns c =
     let call2 = c .before .before in
@@ -34,4 +28,4 @@ returns c =
 pub put-freed-spec : {M : Type 1} → statement M
 put-freed-spec =
     tie.close
-    (tie.spec slice-aggregate-put-word put-word-requires put-wakes-requires same-length returns)
+    (tie.spec (λ c. search needs) put-word-requires put-wakes-requires (λ c. search needs) returns)

@@ -19,9 +19,6 @@ put-number-requires c κs =
     let word = s .args .word .now in
     omega (arith, s .pre, one-length word (decimal (s .args .n)), past word _ (call .put-word .ensures))
 
-same-length : tie.Need-same-length
-same-length c = search needs
-
 returns : tie.Need-returns
 unfolding words
 returns c =
@@ -30,4 +27,4 @@ returns c =
     and-then (call1 .put-word .ensures) (call2 .put-number .ensures)
 
 pub put-one-spec : {M : Type 1} → statement M
-put-one-spec = tie.close (tie.spec put-word-requires put-number-requires same-length returns)
+put-one-spec = tie.close (tie.spec put-word-requires put-number-requires (λ c. search needs) returns)

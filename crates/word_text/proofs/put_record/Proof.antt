@@ -10,9 +10,6 @@ use borrow.Author.Needs.{needs}
 use Rattle.word_text.proofs.put_record.Statement.{statement}
 use Rattle.word_text.proofs.put_record.Tie as tie
 
-slice-aggregate-put-word : tie.Need-slice-aggregate-put-word
-slice-aggregate-put-word c = search needs
-
 put-word-requires : tie.Need-put-word-requires
 put-word-requires c κs =
     let s = c .before .before .before in
@@ -60,7 +57,7 @@ pub put-record-spec : {M : Type 1} → statement M
 put-record-spec =
     tie.close
     (tie.spec
-    slice-aggregate-put-word
+    (λ c. search needs)
     put-word-requires
     put-hex-requires
     slice-write-out

@@ -8,9 +8,6 @@ use borrow.Author.Needs.{needs}
 use Rattle.word_text.proofs.put_region.Statement.{statement}
 use Rattle.word_text.proofs.put_region.Tie as tie
 
-slice-aggregate-put-word : tie.Need-slice-aggregate-put-word
-slice-aggregate-put-word c = search needs
-
 put-word-requires : tie.Need-put-word-requires
 put-word-requires c κs =
     let s = c .before .before .before in
@@ -59,9 +56,6 @@ put-wakes-requires c κs =
       past count _ (call3 .put-number2 .ensures),
     )
 
-same-length : tie.Need-same-length
-same-length c = search needs
-
 returns : tie.Need-returns
 unfolding words
 returns c =
@@ -77,10 +71,10 @@ pub put-region-spec : {M : Type 1} → statement M
 put-region-spec =
     tie.close
     (tie.spec
-    slice-aggregate-put-word
+    (λ c. search needs)
     put-word-requires
     put-number-requires
     put-number-requires-2
     put-wakes-requires
-    same-length
+    (λ c. search needs)
     returns)

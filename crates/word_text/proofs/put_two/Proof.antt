@@ -34,9 +34,6 @@ put-number-requires-2 c κs =
       past a _ (call2 .put-number .ensures),
     )
 
-same-length : tie.Need-same-length
-same-length c = search needs
-
 returns : tie.Need-returns
 unfolding words
 returns c =
@@ -48,4 +45,4 @@ returns c =
 pub put-two-spec : {M : Type 1} → statement M
 put-two-spec =
     tie.close
-    (tie.spec put-word-requires put-number-requires put-number-requires-2 same-length returns)
+    (tie.spec put-word-requires put-number-requires put-number-requires-2 (λ c. search needs) returns)

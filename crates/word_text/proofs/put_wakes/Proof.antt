@@ -5,25 +5,10 @@ use borrow.Author.Needs.{needs}
 use Rattle.word_text.proofs.put_wakes.Statement.{statement}
 use Rattle.word_text.proofs.put_wakes.Tie as tie
 
-enum-known-wakes : tie.Need-enum-known-wakes
-enum-known-wakes c = search needs
-
-slice-aggregate-put-one : tie.Need-slice-aggregate-put-one
-slice-aggregate-put-one c = search needs
-
-wide8-requires : tie.Need-wide8-requires
-wide8-requires c κs = search needs
-
 put-one-requires : tie.Need-put-one-requires
 put-one-requires c κs =
     let told = c .before .before .before .before in
     rw (c .wide8 .ensures) (rw (told .wakes .given .1) at (told .before .before .before .pre))
-
-enum-told : tie.Need-enum-told
-enum-told c = search needs
-
-slice-aggregate-put-word : tie.Need-slice-aggregate-put-word
-slice-aggregate-put-word c = search needs
 
 put-word-requires : tie.Need-put-word-requires
 unfolding words
@@ -32,17 +17,11 @@ put-word-requires c κs =
     let room = rw (told .enum-told .given .1) at (told .before .before .before .pre) in
     omega (arith, room)
 
-same-length : tie.Need-same-length
-same-length c = search needs
-
 returns : tie.Need-returns
 returns c =
     let call = c .before .before in
     let wide = call .before in
     rw (wide .before .before .before .before .wakes .given .1) (rw (wide .wide8 .ensures) at (call .put-one .ensures))
-
-same-length-2 : tie.Need-same-length-2
-same-length-2 c = search needs
 
 returns-2 : tie.Need-returns-2
 unfolding words
@@ -54,14 +33,14 @@ pub put-wakes-spec : {M : Type 1} → statement M
 put-wakes-spec =
     tie.close
     (tie.spec
-    enum-known-wakes
-    slice-aggregate-put-one
-    wide8-requires
+    (λ c. search needs)
+    (λ c. search needs)
+    (λ c κs. search needs)
     put-one-requires
-    enum-told
-    slice-aggregate-put-word
+    (λ c. search needs)
+    (λ c. search needs)
     put-word-requires
-    same-length
+    (λ c. search needs)
     returns
-    same-length-2
+    (λ c. search needs)
     returns-2)

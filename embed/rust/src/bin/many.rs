@@ -67,16 +67,9 @@ fn run_all() -> io::Result<()> {
         let text = run_to_string(&sheet, &mut book)
             .ok_or_else(|| fault("no text is long enough", number))?;
         if !text_has_these_events(&sheet, &text) {
-            return Err(fault(
-                "the text has other events than event_at finds",
-                number,
-            ));
+            return Err(fault("the text has other events than event_at finds", number));
         }
-        let printed = if sheet.len() > LONGEST_SHEET {
-            "sheet too long\n"
-        } else {
-            &text
-        };
+        let printed = if sheet.len() > LONGEST_SHEET { "sheet too long\n" } else { &text };
         write_item(&mut sink, printed.as_bytes())?;
         number += 1;
     }

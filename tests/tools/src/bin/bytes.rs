@@ -9,7 +9,9 @@ fn bytes_of(text: &str) -> Result<Vec<u8>, String> {
     for (number, line) in text.lines().enumerate() {
         let code = line.split('#').next().unwrap_or("");
         for c in code.chars().filter(|c| !c.is_whitespace() && *c != ',') {
-            let digit = c.to_digit(16).ok_or(format!("line {}: {c:?} is no hexadecimal digit", number + 1))?;
+            let digit = c
+                .to_digit(16)
+                .ok_or(format!("line {}: {c:?} is no hexadecimal digit", number + 1))?;
             digits.push(digit as u8);
         }
     }

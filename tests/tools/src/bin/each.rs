@@ -45,7 +45,9 @@ fn main() -> ExitCode {
     let words: Vec<String> = std::env::args().skip(1).collect();
     let arguments = match words.as_slice() {
         [program] => Some((program, usize::MAX)),
-        [program, flag, size] if flag == "--pieces" => size.parse().ok().filter(|n| *n > 0).map(|n| (program, n)),
+        [program, flag, size] if flag == "--pieces" => {
+            size.parse().ok().filter(|n| *n > 0).map(|n| (program, n))
+        }
         _ => None,
     };
     let Some((program, piece)) = arguments else {

@@ -10,30 +10,17 @@ Inv-loop was is i₀ i = i ≤ 64
 abbrev μ-loop : tie.MeasureT-loop
 μ-loop was is i₀ i = 64 - i
 
-loop-holds : tie.Need-loop-holds Inv-loop μ-loop
-loop-holds c = search needs
-
-array-read-print-flag : tie.Need-array-read-print-flag Inv-loop μ-loop
-array-read-print-flag c = search needs
-
-array-read-print-flag-2 : tie.Need-array-read-print-flag-2 Inv-loop μ-loop
-array-read-print-flag-2 c = search needs
-
-print-flag-requires : tie.Need-print-flag-requires Inv-loop μ-loop
-print-flag-requires c κs = search needs
-
-add-i : tie.Need-add-i Inv-loop μ-loop
-add-i c = search needs
-
-loop-less : tie.Need-loop-less Inv-loop μ-loop
-loop-less c = search needs
-
-loop-again : tie.Need-loop-again Inv-loop μ-loop
-loop-again c = search needs
-
-returns : tie.Need-returns Inv-loop μ-loop
-returns c = search needs
-
 pub print-flags-spec : {M : Type 1} → statement M
 print-flags-spec =
-    tie.close (tie.spec Inv-loop μ-loop loop-holds array-read-print-flag array-read-print-flag-2 print-flag-requires add-i loop-less loop-again returns)
+    tie.close
+    (tie.spec
+    Inv-loop
+    μ-loop
+    (λ c. search needs)
+    (λ c. search needs)
+    (λ c. search needs)
+    (λ c κs. search needs)
+    (λ c. search needs)
+    (λ c. search needs)
+    (λ c. search needs)
+    (λ c. search needs))

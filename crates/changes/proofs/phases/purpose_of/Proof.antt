@@ -12,14 +12,8 @@ whole-book zero a b = absurd (a refl)
 whole-book (suc zero) a b = absurd (b refl)
 whole-book (suc (suc k)) a b = refl
 
-returns : tie.Need-returns
-returns c = search needs
-
-returns-2 : tie.Need-returns-2
-returns-2 c = search needs
-
 returns-3 : tie.Need-returns-3
 returns-3 c = whole-book _ (c .before .if1 .left) (c .if2 .left)
 
 pub purpose-of-spec : {M : Type 1} → statement M
-purpose-of-spec = tie.close (tie.spec returns returns-2 returns-3)
+purpose-of-spec = tie.close (tie.spec (λ c. search needs) (λ c. search needs) returns-3)

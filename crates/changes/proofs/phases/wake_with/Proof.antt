@@ -4,9 +4,6 @@ use borrow.Author.Needs.{needs}
 use Rattle.changes.proofs.phases.wake_with.Statement.{statement}
 use Rattle.changes.proofs.phases.wake_with.Tie as tie
 
-enum-known-phase : tie.Need-enum-known-phase
-enum-known-phase c = search needs
-
 returns : tie.Need-returns
 returns c = rw (c .before .phase .given .1)
 
@@ -14,4 +11,4 @@ returns-2 : tie.Need-returns-2
 returns-2 c = rw (not-waiting (c .before .args .phase) (c .match .keys2))
 
 pub wake-with-spec : {M : Type 1} → statement M
-wake-with-spec = tie.close (tie.spec enum-known-phase returns returns-2)
+wake-with-spec = tie.close (tie.spec (λ c. search needs) returns returns-2)

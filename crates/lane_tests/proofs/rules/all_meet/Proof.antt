@@ -26,15 +26,6 @@ loop-holds c =
     let len : length (c .before .args .line .lane) ≡ mostLanes = search (length-unmapped, g) in
     (refl, len, refl)
 
-mul-l : tie.Need-mul-l Inv-loop μ-loop
-mul-l c = search needs
-
-array-copy-out-l : tie.Need-array-copy-out-l Inv-loop μ-loop
-array-copy-out-l c = search needs
-
-meets-requires : tie.Need-meets-requires Inv-loop μ-loop
-meets-requires c κs = search needs
-
 returns : tie.Need-returns Inv-loop μ-loop
 returns c =
     let loop = c .before .before .before .before in
@@ -43,12 +34,6 @@ returns c =
     let room : loop .loop .i < length (loop .before .before .args .line .lane) = omega (arith, inv .1) in
     sym (all-stop (on (ruleOf (a .rule) (a .line))) (a .line .lane) (loop .loop .i) idleLane room (sym (c .before .meets .ensures) ∙ not-true _ (c .if1 .taken)))
     ∙ inv .2
-
-add-i : tie.Need-add-i Inv-loop μ-loop
-add-i c = search needs
-
-loop-less : tie.Need-loop-less Inv-loop μ-loop
-loop-less c = search needs
 
 loop-again : tie.Need-loop-again Inv-loop μ-loop
 loop-again c =
@@ -72,11 +57,11 @@ all-meet-spec =
     Inv-loop
     μ-loop
     loop-holds
-    mul-l
-    array-copy-out-l
-    meets-requires
+    (λ c. search needs)
+    (λ c. search needs)
+    (λ c κs. search needs)
     returns
-    add-i
-    loop-less
+    (λ c. search needs)
+    (λ c. search needs)
     loop-again
     returns-2)

@@ -3,30 +3,6 @@ use borrow.Author.Needs.{needs}
 use Rattle.lane_tests.proofs.rules.meets.Statement.{statement}
 use Rattle.lane_tests.proofs.rules.meets.Tie as tie
 
-enum-told : tie.Need-enum-told
-enum-told c = search needs
-
-is-idle-requires : tie.Need-is-idle-requires
-is-idle-requires c κs = search needs
-
-enum-told-2 : tie.Need-enum-told-2
-enum-told-2 c = search needs
-
-is-idle-or-gathered-requires : tie.Need-is-idle-or-gathered-requires
-is-idle-or-gathered-requires c κs = search needs
-
-enum-told-3 : tie.Need-enum-told-3
-enum-told-3 c = search needs
-
-value-ok-requires : tie.Need-value-ok-requires
-value-ok-requires c κs = search needs
-
-enum-told-4 : tie.Need-enum-told-4
-enum-told-4 c = search needs
-
-region-ok-requires : tie.Need-region-ok-requires
-region-ok-requires c κs = search needs
-
 returns : tie.Need-returns
 returns c = rw (c .before .enum-told .given .1) (c .is-idle .ensures)
 
@@ -43,14 +19,14 @@ pub meets-spec : {M : Type 1} → statement M
 meets-spec =
     tie.close
     (tie.spec
-    enum-told
-    is-idle-requires
-    enum-told-2
-    is-idle-or-gathered-requires
-    enum-told-3
-    value-ok-requires
-    enum-told-4
-    region-ok-requires
+    (λ c. search needs)
+    (λ c κs. search needs)
+    (λ c. search needs)
+    (λ c κs. search needs)
+    (λ c. search needs)
+    (λ c κs. search needs)
+    (λ c. search needs)
+    (λ c κs. search needs)
     returns
     returns-2
     returns-3

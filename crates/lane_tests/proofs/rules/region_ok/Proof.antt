@@ -33,12 +33,6 @@ within c =
 writing : (c : tie.Else4) → isWriting (phase-at (c .before .before .before .before .before .before)) ≡ true
 writing c = sym (c .before .is-writing .ensures) ∙ not-false _ (c .if4 .left)
 
-left-in-requires : tie.Need-left-in-requires
-left-in-requires c κs = search needs
-
-is-busy-requires : tie.Need-is-busy-requires
-is-busy-requires c κs = search needs
-
 returns : tie.Need-returns
 returns c = rw (sym (c .before .is-busy .ensures) ∙ not-true _ (c .if1 .taken))
 
@@ -47,35 +41,17 @@ returns-2 c =
     let h = rw (c .before .before .before .left-in .ensures) at (c .if2 .taken) in
     rw (busy (c .before), lt-leb 1 _ h)
 
-cast-if3 : tie.Need-cast-if3
-cast-if3 c = search needs
-
-region-end-requires : tie.Need-region-end-requires
-region-end-requires c κs = search needs
-
 returns-3 : tie.Need-returns-3
 returns-3 c =
     let e2 = c .before .before .before in
     let h = rw (c .before .region-end .ensures) at (c .if3 .taken) in
     rw (busy (e2 .before), has-left e2, lt-leb _ _ h)
 
-is-writing-requires : tie.Need-is-writing-requires
-is-writing-requires c κs = search needs
-
 returns-4 : tie.Need-returns-4
 returns-4 c =
     let e3 = c .before .before in
     let e2 = e3 .before .before .before in
     rw (busy (e2 .before), has-left e2, within e3, sym (c .before .is-writing .ensures) ∙ not-true _ (c .if4 .taken))
-
-place-in-requires : tie.Need-place-in-requires
-place-in-requires c κs = search needs
-
-cast-fits : tie.Need-cast-fits
-cast-fits c = search needs
-
-fits-requires : tie.Need-fits-requires
-fits-requires c κs = search needs
 
 returns-5 : tie.Need-returns-5
 returns-5 c =
@@ -89,16 +65,16 @@ pub region-ok-spec : {M : Type 1} → statement M
 region-ok-spec =
     tie.close
     (tie.spec
-    left-in-requires
-    is-busy-requires
+    (λ c κs. search needs)
+    (λ c κs. search needs)
     returns
     returns-2
-    cast-if3
-    region-end-requires
+    (λ c. search needs)
+    (λ c κs. search needs)
     returns-3
-    is-writing-requires
+    (λ c κs. search needs)
     returns-4
-    place-in-requires
-    cast-fits
-    fits-requires
+    (λ c κs. search needs)
+    (λ c. search needs)
+    (λ c κs. search needs)
     returns-5)

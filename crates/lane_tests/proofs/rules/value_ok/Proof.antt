@@ -5,14 +5,8 @@ use borrow.Author.Needs.{needs}
 use Rattle.lane_tests.proofs.rules.value_ok.Statement.{statement}
 use Rattle.lane_tests.proofs.rules.value_ok.Tie as tie
 
-has-turn-requires : tie.Need-has-turn-requires
-has-turn-requires c κs = search needs
-
 returns : tie.Need-returns
 returns c = rw (sym (c .before .has-turn .ensures) ∙ not-true _ (c .if1 .taken))
-
-place-in-requires : tie.Need-place-in-requires
-place-in-requires c κs = search needs
 
 returns-2 : tie.Need-returns-2
 returns-2 c =
@@ -20,4 +14,4 @@ returns-2 c =
     rw (sym (turn .before .has-turn .ensures) ∙ not-false _ (turn .if1 .left), ← c .before .before .place-in .ensures)
 
 pub value-ok-spec : {M : Type 1} → statement M
-value-ok-spec = tie.close (tie.spec has-turn-requires returns place-in-requires returns-2)
+value-ok-spec = tie.close (tie.spec (λ c κs. search needs) returns (λ c κs. search needs) returns-2)

@@ -20,9 +20,6 @@ Inv-loop x start lane i₀ i = allPass (on (apart x)) (drop i lane) ≡ allPass 
 abbrev μ-loop : tie.MeasureT-loop
 μ-loop x start lane i₀ i = mostLanes - i
 
-is-busy-requires : tie.Need-is-busy-requires Inv-loop μ-loop
-is-busy-requires c κs = search needs
-
 returns : tie.Need-returns Inv-loop μ-loop
 returns c =
     let a = c .before .before .args in
@@ -32,15 +29,6 @@ returns c =
 loop-holds : tie.Need-loop-holds Inv-loop μ-loop
 loop-holds c = refl
 
-mul-l : tie.Need-mul-l Inv-loop μ-loop
-mul-l c = search needs
-
-array-copy-out-l : tie.Need-array-copy-out-l Inv-loop μ-loop
-array-copy-out-l c = search needs
-
-are-apart-requires : tie.Need-are-apart-requires Inv-loop μ-loop
-are-apart-requires c κs = search needs
-
 returns-2 : tie.Need-returns-2 Inv-loop μ-loop
 returns-2 c =
     let loop = c .before .before .before .before in
@@ -48,12 +36,6 @@ returns-2 c =
     let room : loop .loop .i < length (a .t2) = search needs in
     sym (all-stop (on (apart (a .x))) (a .t2) (loop .loop .i) idleLane room (sym (c .before .are-apart .ensures) ∙ not-true _ (c .if2 .taken)))
     ∙ loop .loop .inv
-
-add-i : tie.Need-add-i Inv-loop μ-loop
-add-i c = search needs
-
-loop-less : tie.Need-loop-less Inv-loop μ-loop
-loop-less c = search needs
 
 loop-again : tie.Need-loop-again Inv-loop μ-loop
 loop-again c =
@@ -75,14 +57,14 @@ apart-from-spec =
     (tie.spec
     Inv-loop
     μ-loop
-    is-busy-requires
+    (λ c κs. search needs)
     returns
     loop-holds
-    mul-l
-    array-copy-out-l
-    are-apart-requires
+    (λ c. search needs)
+    (λ c. search needs)
+    (λ c κs. search needs)
     returns-2
-    add-i
-    loop-less
+    (λ c. search needs)
+    (λ c. search needs)
     loop-again
     returns-3)

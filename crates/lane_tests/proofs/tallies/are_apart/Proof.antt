@@ -13,35 +13,17 @@ busy-x c = sym (c .before .is-busy .ensures) ∙ not-false _ (c .if1 .left)
 busy-y : (c : tie.Else2) → isBusy (c .before .before .before .before .args .y) ≡ true
 busy-y c = sym (c .before .is-busy2 .ensures) ∙ not-false _ (c .if2 .left)
 
-is-busy-requires : tie.Need-is-busy-requires
-is-busy-requires c κs = search needs
-
 returns : tie.Need-returns
 returns c = rw (sym (c .before .is-busy .ensures) ∙ not-true _ (c .if1 .taken))
 
-is-busy-requires-2 : tie.Need-is-busy-requires-2
-is-busy-requires-2 c κs = search needs
-
 returns-2 : tie.Need-returns-2
 returns-2 c = rw (busy-x (c .before .before), sym (c .before .is-busy2 .ensures) ∙ not-true _ (c .if2 .taken))
-
-region-end-requires : tie.Need-region-end-requires
-region-end-requires c κs = search needs
-
-region-start-requires : tie.Need-region-start-requires
-region-start-requires c κs = search needs
 
 returns-3 : tie.Need-returns-3
 returns-3 c =
     let e2 = c .before .before .before in
     let h = rw (c .before .before .region-end .ensures, c .before .region-start .ensures) at (c .if3 .taken) in
     rw (busy-x (e2 .before .before), busy-y e2, le-leb _ _ h)
-
-region-end-requires-2 : tie.Need-region-end-requires-2
-region-end-requires-2 c κs = search needs
-
-region-start-requires-2 : tie.Need-region-start-requires-2
-region-start-requires-2 c κs = search needs
 
 returns-4 : tie.Need-returns-4
 returns-4 c =
@@ -54,13 +36,13 @@ pub are-apart-spec : {M : Type 1} → statement M
 are-apart-spec =
     tie.close
     (tie.spec
-    is-busy-requires
+    (λ c κs. search needs)
     returns
-    is-busy-requires-2
+    (λ c κs. search needs)
     returns-2
-    region-end-requires
-    region-start-requires
+    (λ c κs. search needs)
+    (λ c κs. search needs)
     returns-3
-    region-end-requires-2
-    region-start-requires-2
+    (λ c κs. search needs)
+    (λ c κs. search needs)
     returns-4)

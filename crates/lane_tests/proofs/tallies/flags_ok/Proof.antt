@@ -20,18 +20,6 @@ abbrev μ-loop : tie.MeasureT-loop
 loop-holds : tie.Need-loop-holds Inv-loop μ-loop
 loop-holds c = refl
 
-mul-l : tie.Need-mul-l Inv-loop μ-loop
-mul-l c = search needs
-
-array-copy-out-l : tie.Need-array-copy-out-l Inv-loop μ-loop
-array-copy-out-l c = search needs
-
-array-read-if1 : tie.Need-array-read-if1 Inv-loop μ-loop
-array-read-if1 c = search needs
-
-flag-for-requires : tie.Need-flag-for-requires Inv-loop μ-loop
-flag-for-requires c κs = search needs
-
 returns : tie.Need-returns Inv-loop μ-loop
 returns c =
     let loop = c .before .before .before .before in
@@ -40,12 +28,6 @@ returns c =
     let lanes-length : length (a .t2) ≡ mostLanes = search needs in
     sym (flags-stop (a .t1) (a .t2) (loop .loop .i) flags-length lanes-length (c .before .before .before .loop-test .taken) (λ e. c .if1 .taken (e ∙ sym (c .before .flag-for .ensures))))
     ∙ loop .loop .inv
-
-add-i : tie.Need-add-i Inv-loop μ-loop
-add-i c = search needs
-
-loop-less : tie.Need-loop-less Inv-loop μ-loop
-loop-less c = search needs
 
 loop-again : tie.Need-loop-again Inv-loop μ-loop
 loop-again c =
@@ -70,12 +52,12 @@ flags-ok-spec =
     Inv-loop
     μ-loop
     loop-holds
-    mul-l
-    array-copy-out-l
-    array-read-if1
-    flag-for-requires
+    (λ c. search needs)
+    (λ c. search needs)
+    (λ c. search needs)
+    (λ c κs. search needs)
     returns
-    add-i
-    loop-less
+    (λ c. search needs)
+    (λ c. search needs)
     loop-again
     returns-2)

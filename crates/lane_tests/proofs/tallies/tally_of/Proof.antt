@@ -26,57 +26,6 @@ Inv-loop lane flagged₀ turns₀ gathered₀ total₀ i₀ flagged turns gather
 abbrev μ-loop : tie.MeasureT-loop
 μ-loop lane flagged₀ turns₀ gathered₀ total₀ i₀ flagged turns gathered total i = mostLanes - i
 
-loop-holds : tie.Need-loop-holds Inv-loop μ-loop
-loop-holds c = omega arith
-
-mul-l : tie.Need-mul-l Inv-loop μ-loop
-mul-l c = search needs
-
-array-copy-out-l : tie.Need-array-copy-out-l Inv-loop μ-loop
-array-copy-out-l c = search needs
-
-flag-for-requires : tie.Need-flag-for-requires Inv-loop μ-loop
-flag-for-requires c κs = search needs
-
-one-requires : tie.Need-one-requires Inv-loop μ-loop
-one-requires c κs = search needs
-
-add-flagged : tie.Need-add-flagged Inv-loop μ-loop
-add-flagged c = search needs
-
-has-turn-requires : tie.Need-has-turn-requires Inv-loop μ-loop
-has-turn-requires c κs = search needs
-
-one-requires-2 : tie.Need-one-requires-2 Inv-loop μ-loop
-one-requires-2 c κs = search needs
-
-add-turns : tie.Need-add-turns Inv-loop μ-loop
-add-turns c = search needs
-
-is-gathered-requires : tie.Need-is-gathered-requires Inv-loop μ-loop
-is-gathered-requires c κs = search needs
-
-one-requires-3 : tie.Need-one-requires-3 Inv-loop μ-loop
-one-requires-3 c κs = search needs
-
-add-gathered : tie.Need-add-gathered Inv-loop μ-loop
-add-gathered c = search needs
-
-count-in-requires : tie.Need-count-in-requires Inv-loop μ-loop
-count-in-requires c κs = search needs
-
-cast-total : tie.Need-cast-total Inv-loop μ-loop
-cast-total c = search needs
-
-add-total : tie.Need-add-total Inv-loop μ-loop
-add-total c = search needs
-
-add-i : tie.Need-add-i Inv-loop μ-loop
-add-i c = search needs
-
-loop-less : tie.Need-loop-less Inv-loop μ-loop
-loop-less c = search needs
-
 loop-again : tie.Need-loop-again Inv-loop μ-loop
 loop-again c =
     let loop = c .before .before .before .before .before .before .before .before .before in
@@ -115,22 +64,22 @@ tally-of-spec =
     (tie.spec
     Inv-loop
     μ-loop
-    loop-holds
-    mul-l
-    array-copy-out-l
-    flag-for-requires
-    one-requires
-    add-flagged
-    has-turn-requires
-    one-requires-2
-    add-turns
-    is-gathered-requires
-    one-requires-3
-    add-gathered
-    count-in-requires
-    cast-total
-    add-total
-    add-i
-    loop-less
+    (λ c. omega arith)
+    (λ c. search needs)
+    (λ c. search needs)
+    (λ c κs. search needs)
+    (λ c κs. search needs)
+    (λ c. search needs)
+    (λ c κs. search needs)
+    (λ c κs. search needs)
+    (λ c. search needs)
+    (λ c κs. search needs)
+    (λ c κs. search needs)
+    (λ c. search needs)
+    (λ c κs. search needs)
+    (λ c. search needs)
+    (λ c. search needs)
+    (λ c. search needs)
+    (λ c. search needs)
     loop-again
     returns)

@@ -22,26 +22,11 @@ loop-holds c = (refl, omega arith, omega arith)
 mul-content : tie.Need-mul-content Inv-loop μ-loop
 mul-content c = let lp = c .before .loop in omega (arith, below-seven (lp .content) (lp .j) (lp .inv .1) (c .loop-test .taken))
 
-add-wide : tie.Need-add-wide Inv-loop μ-loop
-add-wide c = search needs
-
-shared-slice-read-wide : tie.Need-shared-slice-read-wide Inv-loop μ-loop
-shared-slice-read-wide c = search needs
-
-wide-requires : tie.Need-wide-requires Inv-loop μ-loop
-wide-requires c κs = search needs
-
 add-content : tie.Need-add-content Inv-loop μ-loop
 add-content c =
     let in-loop = c .before .before in
     let lp = in-loop .before .loop in
     omega (arith, below-seven (lp .content) (lp .j) (lp .inv .1) (in-loop .loop-test .taken))
-
-add-j : tie.Need-add-j Inv-loop μ-loop
-add-j c = search needs
-
-loop-less : tie.Need-loop-less Inv-loop μ-loop
-loop-less c = search needs
 
 loop-again : tie.Need-loop-again Inv-loop μ-loop
 loop-again c =
@@ -67,11 +52,11 @@ load-record-spec =
     μ-loop
     loop-holds
     mul-content
-    add-wide
-    shared-slice-read-wide
-    wide-requires
+    (λ c. search needs)
+    (λ c. search needs)
+    (λ c κs. search needs)
     add-content
-    add-j
-    loop-less
+    (λ c. search needs)
+    (λ c. search needs)
     loop-again
     returns)

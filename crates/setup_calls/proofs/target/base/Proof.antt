@@ -7,13 +7,10 @@ use Rattle.setup_calls.proofs.target.base.Tie as tie
 returns : tie.Need-returns
 returns c = rw (c .if1 .taken)
 
-returns-2 : tie.Need-returns-2
-returns-2 c = search needs
-
 returns-3 : tie.Need-returns-3
 returns-3 c =
     let a = c .before .before .args in
     base-last (a .whence) (a .pointer) (a .end) (c .before .if1 .left) (c .if2 .left)
 
 pub base-spec : {M : Type 1} → statement M
-base-spec = tie.close (tie.spec returns returns-2 returns-3)
+base-spec = tie.close (tie.spec returns (λ c. search needs) returns-3)

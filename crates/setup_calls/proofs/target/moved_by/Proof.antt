@@ -9,9 +9,6 @@ use Rattle.setup_calls.proofs.target.moved_by.Tie as tie
 narrow : (c : tie.Start) → c .args .base < 4294967296
 narrow c = search needs
 
-cast-sum : tie.Need-cast-sum
-cast-sum c = search needs
-
 cast-sum-2 : tie.Need-cast-sum-2
 cast-sum-2 c = offset-fits (c .args .base) (c .args .offset) (narrow c) (c .fits .offset)
 
@@ -44,4 +41,4 @@ returns-3 c =
 
 pub moved-by-spec : {M : Type 1} → statement M
 moved-by-spec =
-    tie.close (tie.spec cast-sum cast-sum-2 add-sum returns returns-2 cast-t8 returns-3)
+    tie.close (tie.spec (λ c. search needs) cast-sum-2 add-sum returns returns-2 cast-t8 returns-3)

@@ -27,9 +27,6 @@ numbers : (c : tie.Else3) → (eqb (view-at c .displacement) 0 ≡ true) × (eqb
 numbers c =
     (eq-eqb _ 0 (c .before .before .before .before .if1 .left), eq-eqb _ 1 (c .before .before .if2 .left), eq-eqb _ 1 (c .if3 .left))
 
-array-copy-out-first : tie.Need-array-copy-out-first
-array-copy-out-first c = search needs
-
 returns : tie.Need-returns
 returns c = rw (ne-eqb _ 0 (c .if1 .taken))
 
@@ -54,9 +51,6 @@ returns-5 c =
     let blocks = plain-blocks (view-at e3 .block) (some-block e3) in
     rw (numbers e3 .0, numbers e3 .1, numbers e3 .2, blocks, eq-eqb _ 0 (e4 .if4 .left), ne-eqb _ 1 (c .if5 .taken))
 
-is-ok-requires : tie.Need-is-ok-requires
-is-ok-requires c κs = search needs
-
 returns-6 : tie.Need-returns-6
 returns-6 c =
     let e5 = c .before in
@@ -70,11 +64,11 @@ pub is-plain-spec : {M : Type 1} → statement M
 is-plain-spec =
     tie.close
     (tie.spec
-    array-copy-out-first
+    (λ c. search needs)
     returns
     returns-2
     returns-3
     returns-4
     returns-5
-    is-ok-requires
+    (λ c κs. search needs)
     returns-6)

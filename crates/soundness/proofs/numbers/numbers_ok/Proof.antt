@@ -4,18 +4,12 @@ use borrow.Author.Needs.{needs}
 use Rattle.soundness.proofs.numbers.numbers_ok.Statement.{statement}
 use Rattle.soundness.proofs.numbers.numbers_ok.Tie as tie
 
-unopened-numbers-requires : tie.Need-unopened-numbers-requires
-unopened-numbers-requires c κs = search needs
-
 returns : tie.Need-returns
 returns c = rw (eq-eqb _ 0 (c .before .if1 .taken)) (c .unopened-numbers .ensures)
-
-open-numbers-requires : tie.Need-open-numbers-requires
-open-numbers-requires c κs = search needs
 
 returns-2 : tie.Need-returns-2
 returns-2 c = rw (ne-eqb _ 0 (c .before .if1 .left)) (c .open-numbers .ensures)
 
 pub numbers-ok-spec : {M : Type 1} → statement M
 numbers-ok-spec =
-    tie.close (tie.spec unopened-numbers-requires returns open-numbers-requires returns-2)
+    tie.close (tie.spec (λ c κs. search needs) returns (λ c κs. search needs) returns-2)

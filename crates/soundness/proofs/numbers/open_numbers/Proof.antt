@@ -22,9 +22,6 @@ of-capacity : (c : tie.Else3) → (leb (line-at c .lanes) mostLanes ≡ true) ×
 of-capacity c =
     (lanes-few (c .before .before .before .before), le-leb 8 _ (c .before .before .if2 .left), le-leb _ 65536 (c .if3 .left))
 
-index-requires : tie.Need-index-requires
-index-requires c κs = search needs
-
 returns : tie.Need-returns
 returns c =
     let h = rw (c .before .index .ensures) at (c .if1 .taken) in
@@ -47,18 +44,12 @@ returns-5 c =
     let o = of-capacity (e4 .before .before) in
     rw (o .0, o .1, o .2, le-leb _ _ (e4 .if4 .left), lt-leb _ mostPointer (c .if5 .taken))
 
-is-ok-requires : tie.Need-is-ok-requires
-is-ok-requires c κs = search needs
-
 returns-6 : tie.Need-returns-6
 returns-6 c =
     let e5 = c .before .before in
     let e4 = e5 .before .before in
     let o = of-capacity (e4 .before .before) in
     rw (o .0, o .1, o .2, le-leb _ _ (e4 .if4 .left), le-leb _ mostPointer (e5 .if5 .left), sym (c .before .is-ok .ensures) ∙ not-true _ (c .if6 .taken))
-
-length-requires : tie.Need-length-requires
-length-requires c κs = search needs
 
 returns-7 : tie.Need-returns-7
 returns-7 c =
@@ -73,13 +64,13 @@ pub open-numbers-spec : {M : Type 1} → statement M
 open-numbers-spec =
     tie.close
     (tie.spec
-    index-requires
+    (λ c κs. search needs)
     returns
     returns-2
     returns-3
     returns-4
     returns-5
-    is-ok-requires
+    (λ c κs. search needs)
     returns-6
-    length-requires
+    (λ c κs. search needs)
     returns-7)

@@ -17,9 +17,6 @@ returns-3 c =
     let e2 = c .before .before in
     rw (eq-eqb _ 0 (e2 .before .before .if1 .left), eq-eqb _ 0 (e2 .if2 .left), ne-eqb _ 0 (c .if3 .taken))
 
-is-plain-requires : tie.Need-is-plain-requires
-is-plain-requires c κs = search needs
-
 returns-4 : tie.Need-returns-4
 returns-4 c =
     let e3 = c .before in
@@ -29,4 +26,4 @@ returns-4 c =
 
 pub unopened-numbers-spec : {M : Type 1} → statement M
 unopened-numbers-spec =
-    tie.close (tie.spec returns returns-2 returns-3 is-plain-requires returns-4)
+    tie.close (tie.spec returns returns-2 returns-3 (λ c κs. search needs) returns-4)

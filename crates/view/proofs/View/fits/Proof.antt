@@ -9,27 +9,6 @@ use borrow.Author.Needs.{needs}
 use Rattle.view.proofs.View.fits.Statement.{statement}
 use Rattle.view.proofs.View.fits.Tie as tie
 
-returns : tie.Need-returns
-returns c = search needs
-
-cast-last : tie.Need-cast-last
-cast-last c = search needs
-
-sub-last : tie.Need-sub-last
-sub-last c = search needs
-
-add-last : tie.Need-add-last
-add-last c = search needs
-
-shown-requires : tie.Need-shown-requires
-shown-requires c κs = search needs
-
-position-at-requires : tie.Need-position-at-requires
-position-at-requires c κs = search needs
-
-add-result : tie.Need-add-result
-add-result c = search needs
-
 returns-2 : tie.Need-returns-2
 returns-2 c =
     let a = c .before .before .before .before .before .args in
@@ -41,11 +20,11 @@ pub fits-spec : {M : Type 1} → statement M
 fits-spec =
     tie.close
     (tie.spec
-    returns
-    cast-last
-    sub-last
-    add-last
-    shown-requires
-    position-at-requires
-    add-result
+    (λ c. search needs)
+    (λ c. search needs)
+    (λ c. search needs)
+    (λ c. search needs)
+    (λ c κs. search needs)
+    (λ c κs. search needs)
+    (λ c. search needs)
     returns-2)

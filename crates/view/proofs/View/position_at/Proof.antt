@@ -16,29 +16,11 @@ within c =
     let narrow : a .self .extent ≤ 65535 = search needs in
     tile-most (a .number) (a .sum) (a .self .extent) (search needs) narrow
 
-cast-displacement : tie.Need-cast-displacement
-cast-displacement c = search needs
-
 returns : tie.Need-returns
 returns c =
     let start = c .before .before .before in
     let none : shown (start .args .self) ≡ 0 = sym (start .pre .0) ∙ c .if1 .taken in
     (position-none (start .args .self) (start .args .number) none, search needs)
-
-div-tile : tie.Need-div-tile
-div-tile c = search needs
-
-used-count-requires : tie.Need-used-count-requires
-used-count-requires c κs = search needs
-
-rem-block-record : tie.Need-rem-block-record
-rem-block-record c = search needs
-
-block-record-requires : tie.Need-block-record-requires
-block-record-requires c κs = search needs
-
-cast-t9 : tie.Need-cast-t9
-cast-t9 c = search needs
 
 mul-t11 : tie.Need-mul-t11
 mul-t11 c = omega (arith, within c)
@@ -65,13 +47,13 @@ pub position-at-spec : {M : Type 1} → statement M
 position-at-spec =
     tie.close
     (tie.spec
-    cast-displacement
+    (λ c. search needs)
     returns
-    div-tile
-    used-count-requires
-    rem-block-record
-    block-record-requires
-    cast-t9
+    (λ c. search needs)
+    (λ c κs. search needs)
+    (λ c. search needs)
+    (λ c κs. search needs)
+    (λ c. search needs)
     mul-t11
     add-t12
     mul-t13

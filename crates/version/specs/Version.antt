@@ -1,0 +1,11 @@
+-- The version of the library, as a number and as the line that its programs print; no theorem ties it to document 01, which has none.
+use Prim.Native.Nat.{ℕ}
+use mathlib.Core.List.{List}
+use Rattle.printout.specs.Text.{ascii}
+
+-- 1.0.0: document 01 whole
+abbrev pub versionNumber : ℕ
+versionNumber = 10000
+
+abbrev pub versionLine : List ℕ
+versionLine = ascii "gudlemi 1.0.0\n"
