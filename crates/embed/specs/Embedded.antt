@@ -1,8 +1,12 @@
 -- The answers of the linked functions as plain numbers.
 use Prim.Native.Nat.{ℕ, _-_}
-use mathlib.Core.Bool.{cond}
+use mathlib.Core.Bool.{true, cond}
+use mathlib.Core.Path.{_≡_}
 use mathlib.Core.List.{List}
 use lib.Dec.{ltb}
+use lib.ListN.{length}
+use Rattle.steps.specs.State.{State}
+use Rattle.run.specs.Runs.{leftByRun, printedBy, textFits, textIn}
 use Rattle.event.specs.ReadWrite.{readAt}
 use Rattle.event.specs.declared.Reading.{Reading}
 use Rattle.answer_text.specs.declared.Printed.{Printed}
@@ -15,6 +19,13 @@ noLength = 18446744073709551615
 abbrev pub lengthPrinted : Printed → ℕ
 lengthPrinted (Printed.Length n) = n
 lengthPrinted Printed.TooShort = noLength
+
+-- a run of a sheet from state x: the length that is answered, the book, the text, and that it lies within its buffer
+pub record LinkedRun (x : State) (sheet text : List ℕ) (r : ℕ) (book-left text-left : List ℕ) : Type 0 where
+  pub answer : r ≡ lengthPrinted (printedBy x sheet text)
+  pub book-after : book-left ≡ leftByRun x sheet text .book
+  pub text-after : text-left ≡ textIn x sheet text
+  pub fits : textFits (printedBy x sheet text) (length text) ≡ true
 
 abbrev pub textBound : ℕ → ℕ
 textBound n = cond (ltb 329406144173384848 n) noLength (mostText n)

@@ -1,11 +1,8 @@
 // The functions that C and Rust programs link, on numbers and byte slices: a slice is a pointer and a length.
-ghost use mathlib.Core.Bool.{true};
 ghost use mathlib.Core.Path.{_≡_};
-ghost use lib.ListN.{length};
-ghost use Rattle.embed.specs.Embedded.{eventLength, eventRefusal, lengthPrinted, textBound};
+ghost use Rattle.embed.specs.Embedded.{LinkedRun, eventLength, eventRefusal, textBound};
 ghost use Rattle.steps.specs.State.{fresh};
 ghost use Rattle.version.specs.Version.{versionNumber};
-ghost use Rattle.run.specs.Runs.{leftByRun, printedBy, textFits, textIn};
 use answer_text::MOST_LINE;
 use answer_text::Printed;
 use event::Cursor;
@@ -18,10 +15,7 @@ use run_text::MOST_LAST;
 // or the greatest number where `text` may be too short, with nothing altered.
 #[no_mangle]
 pub extern "C" fn gudlemi_run(sheet: &[u8], book: &mut [u8], text: &mut [u8]) -> usize
-    ensures is { λ r. ⌜ r ≡ lengthPrinted (printedBy (fresh (now (book .entry))) (now (sheet .entry)) (now (text .entry))) ⌝ }
-    ensures book { λ r. ⌜ now (book .exit) ≡ leftByRun (fresh (now (book .entry))) (now (sheet .entry)) (now (text .entry)) .book ⌝ }
-    ensures fits { λ r. ⌜ textFits (printedBy (fresh (now (book .entry))) (now (sheet .entry)) (now (text .entry))) (length (now (text .entry))) ≡ true ⌝ }
-    ensures text { λ r. ⌜ now (text .exit) ≡ textIn (fresh (now (book .entry))) (now (sheet .entry)) (now (text .entry)) ⌝ }
+    ensures { λ r. ⌜ LinkedRun (fresh (now (book .entry))) (now (sheet .entry)) (now (text .entry)) r (now (book .exit)) (now (text .exit)) ⌝ }
 {
     let line = Line::unopened();
     let ran = run(line, book, sheet, text);

@@ -1,6 +1,7 @@
 -- What `linebook` prints of a sheet, in a lent buffer: `linebook` of the crate `printout`, where there is room for it.
 use Prim.Native.Nat.{ℕ}
-use mathlib.Core.Bool.{Bool, cond}
+use mathlib.Core.Bool.{Bool, true, cond}
+use mathlib.Core.Path.{_≡_}
 use mathlib.Core.List.{List}
 use lib.Dec.{ltb}
 use lib.ListN.{length}
@@ -9,7 +10,7 @@ use Rattle.steps.specs.State.{fresh}
 use Rattle.limits.specs.Limits.{mostSheet}
 use Rattle.printout.specs.Text.{ascii}
 use Rattle.answer_text.specs.declared.Printed.{Printed}
-use Rattle.run.specs.Runs.{leftByRun, printedBy, textIn}
+use Rattle.run.specs.Runs.{leftByRun, printedBy, textFits, textIn}
 
 abbrev pub isTooLong : List ℕ → Bool
 isTooLong sheet = ltb mostSheet (length sheet)
@@ -29,3 +30,15 @@ textOf book sheet out = cond (isTooLong sheet) (tooLongText out) (textIn (fresh 
 
 abbrev pub bookOf : List ℕ → List ℕ → List ℕ → List ℕ
 bookOf book sheet out = cond (isTooLong sheet) book (leftByRun (fresh book) sheet out .book)
+
+-- the line of a sheet that is too long: what is answered, and the buffer
+pub record TooLongMeets (out : List ℕ) (r : Printed) (out-left : List ℕ) : Type 0 where
+  pub answer : r ≡ tooLongPrinted out
+  pub text : out-left ≡ tooLongText out
+
+-- what is printed of a sheet: what is answered, the book, the buffer, and that the text lies within it
+pub record SheetMeets (book sheet out : List ℕ) (r : Printed) (book-left out-left : List ℕ) : Type 0 where
+  pub answer : r ≡ sheetPrinted book sheet out
+  pub book-after : book-left ≡ bookOf book sheet out
+  pub text : out-left ≡ textOf book sheet out
+  pub fits : textFits r (length out) ≡ true

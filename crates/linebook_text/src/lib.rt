@@ -1,9 +1,5 @@
 // What `linebook` prints of a sheet: the lines of its run from an unopened line, or that it is too long.
-ghost use mathlib.Core.Bool.{true};
-ghost use mathlib.Core.Path.{_≡_};
-ghost use lib.ListN.{length};
-ghost use Rattle.run.specs.Runs.{textFits};
-ghost use Rattle.linebook_text.specs.Whole.{bookOf, sheetPrinted, textOf, tooLongPrinted, tooLongText};
+ghost use Rattle.linebook_text.specs.Whole.{SheetMeets, TooLongMeets};
 use answer_text::Printed;
 use limits::MOST_SHEET;
 use line::Line;
@@ -13,8 +9,7 @@ use word_text::put_word;
 
 // One line, for a sheet that is too long.
 fn print_too_long(out: &mut [u8]) -> Printed
-    ensures is { λ r. ⌜ r ≡ tooLongPrinted (now (out .entry)) ⌝ }
-    ensures text { λ r. ⌜ now (out .exit) ≡ tooLongText (now (out .entry)) ⌝ }
+    ensures { λ r. ⌜ TooLongMeets (now (out .entry)) r (now (out .exit)) ⌝ }
 {
     if out.len() < 15 {
         return Printed::TooShort;
@@ -24,10 +19,7 @@ fn print_too_long(out: &mut [u8]) -> Printed
 
 // Runs a sheet from an unopened line over a lent book; the text stands at the start of `out`.
 pub fn print_sheet(sheet: &[u8], book: &mut [u8], out: &mut [u8]) -> Printed
-    ensures is { λ r. ⌜ r ≡ sheetPrinted (now (book .entry)) (now (sheet .entry)) (now (out .entry)) ⌝ }
-    ensures book { λ r. ⌜ now (book .exit) ≡ bookOf (now (book .entry)) (now (sheet .entry)) (now (out .entry)) ⌝ }
-    ensures text { λ r. ⌜ now (out .exit) ≡ textOf (now (book .entry)) (now (sheet .entry)) (now (out .entry)) ⌝ }
-    ensures fits { λ r. ⌜ textFits r (length (now (out .entry))) ≡ true ⌝ }
+    ensures { λ r. ⌜ SheetMeets (now (book .entry)) (now (sheet .entry)) (now (out .entry)) r (now (book .exit)) (now (out .exit)) ⌝ }
 {
     if MOST_SHEET < sheet.len() {
         return print_too_long(out);

@@ -8,9 +8,8 @@ ghost use Rattle.line.specs.Line.{isGathered, lane, on};
 ghost use Rattle.line.specs.Sound.{sound};
 ghost use Rattle.steps.specs.Effects.{woken};
 ghost use Rattle.steps.specs.Meets.{stateOf};
-ghost use Rattle.number_text.specs.Stored.{Stored};
-ghost use Rattle.run_text.specs.RunText.{lastLines, mostLast, mostText};
-ghost use Rattle.run.specs.Runs.{RunMeets, RunSound, ended, endsAt};
+ghost use Rattle.run_text.specs.RunText.{mostLast, mostText};
+ghost use Rattle.run.specs.Runs.{Ended, RunMeets, RunSound};
 use answer_text::Printed;
 use answer_text::put_answer;
 use changes::Seen;
@@ -58,9 +57,7 @@ fn wake_lane(waiting: Lane, pointer: Place) -> Lane
 // The end of a run: the last lines stored, and the line as it is.
 fn end_run(line: Line, reading: Reading, out: &mut [u8], at: usize, number: u64) -> RunOutcome
     requires { ⌜ at + mostLast ≤ length (now out) ⌝ }
-    ensures is { λ r. ⌜ r ≡ ended at number reading line ⌝ }
-    ensures text { λ r. ⌜ Stored (lastLines number reading line) (now (out .entry)) at (now (out .exit)) (endsAt at number reading line) ⌝ }
-    ensures short { λ r. ⌜ endsAt at number reading line ≤ at + mostLast ⌝ }
+    ensures { λ r. ⌜ Ended at number reading line (now (out .entry)) r (now (out .exit)) ⌝ }
 {
     let end = put_last(line, reading, out, at, number);
     RunOutcome {

@@ -12,14 +12,14 @@ returns c =
     let r = told .before .before .before .before .before .before in
     let u = r .before .before .before in
     let m = from-unopened _ _ _ _ _ _ _ (u .unopened .ensures) (r .run .ensures) in
-    (ap lengthPrinted (sym (told .printed .given .1) ∙ m .answer), (m .book, (rw (m .answer) at (m .fits), m .text)))
+    record { answer = ap lengthPrinted (sym (told .printed .given .1) ∙ m .answer); book-after = m .book; text-after = m .text; fits = rw (m .answer) at (m .fits) }
 
 returns-2 : tie.Need-returns-2
 returns-2 c =
     let r = c .before .before .before .before .before .before in
     let u = r .before .before .before in
     let m = from-unopened _ _ _ _ _ _ _ (u .unopened .ensures) (r .run .ensures) in
-    (ap lengthPrinted (sym (c .enum-told .given .1) ∙ m .answer), (m .book, (rw (m .answer) at (m .fits), m .text)))
+    record { answer = ap lengthPrinted (sym (c .enum-told .given .1) ∙ m .answer); book-after = m .book; text-after = m .text; fits = rw (m .answer) at (m .fits) }
 
 pub gudlemi-run-spec : {M : Type 1} → statement M
 gudlemi-run-spec =

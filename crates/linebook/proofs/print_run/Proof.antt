@@ -17,7 +17,7 @@ print-first-requires : tie.Need-print-first-requires
 print-first-requires c κs =
     let p = c .before .before in
     let r = p .before .before .before .before in
-    omega (arith, within _ _ _ (p .printed .given .1) (r .print-sheet .ensures .1 .1 .1), r .before .before .before .text-buffer .ensures, r .print-sheet .kept .1 .1 .0)
+    omega (arith, within _ _ _ (p .printed .given .1) (r .print-sheet .ensures .fits), r .before .before .before .text-buffer .ensures, r .print-sheet .kept .1 .1 .0)
 
 pub print-run-spec : {M : Type 1} → statement M
 print-run-spec =

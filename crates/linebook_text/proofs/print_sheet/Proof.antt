@@ -25,7 +25,12 @@ returns c =
     let t = p .before .before in
     let s = t .before .before .before .before in
     let long = lt-ltb _ _ (t .if1 .taken) in
-    (rw long (p .print-too-long .ensures .0), (rw long refl, (rw long (p .print-too-long .ensures .1), subst (λ (q : Printed). textFits q (length (s .args .out .now)) ≡ true) (sym (p .print-too-long .ensures .0)) (short-fits (s .args .out .now)))))
+    record {
+      answer = rw long (p .print-too-long .ensures .answer);
+      book-after = rw long refl;
+      text = rw long (p .print-too-long .ensures .text);
+      fits = subst (λ (q : Printed). textFits q (length (s .args .out .now)) ≡ true) (sym (p .print-too-long .ensures .answer)) (short-fits (s .args .out .now));
+    }
 
 returns-2 : tie.Need-returns-2
 returns-2 c =
@@ -34,7 +39,7 @@ returns-2 c =
     let e = u .before in
     let short = le-ltb _ _ (e .if1 .left) in
     let m = from-unopened _ _ _ _ _ _ _ (u .unopened .ensures) (r .run .ensures) in
-    (rw short (m .answer), (rw short (m .book), (rw short (m .text), m .fits)))
+    record { answer = rw short (m .answer); book-after = rw short (m .book); text = rw short (m .text); fits = m .fits }
 
 pub print-sheet-spec : {M : Type 1} → statement M
 print-sheet-spec =

@@ -130,9 +130,9 @@ returns c =
     let m = p .before .before in
     let ev = m .before in
     let l = ev .before in
-    rw (p .end-run .ensures .0)
-    (ends _ _ _ _ _ _ _ _ _ _ (l .loop .inv) (ev .event-at .result .reading) _ _ (m .match .keys2) (reading-is ev) (p .end-run .ensures .1 .0) (start l .pre .0)
-    (omega (arith, p .end-run .ensures .1 .1, room l, l .loop .inv .out-length)))
+    rw (p .end-run .ensures .is)
+    (ends _ _ _ _ _ _ _ _ _ _ (l .loop .inv) (ev .event-at .result .reading) _ _ (m .match .keys2) (reading-is ev) (p .end-run .ensures .text) (start l .pre .0)
+    (omega (arith, p .end-run .ensures .short, room l, l .loop .inv .out-length)))
 
 call-line-requires : tie.Need-call-line-requires Inv-loop μ-loop
 call-line-requires c κs = is-sound _ _ _ _ _ _ _ _ _ _ (loop-at (event-of (c .before .before .before .before)) .loop .inv)
