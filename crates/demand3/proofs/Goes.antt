@@ -30,7 +30,7 @@ use Rattle.steps.proofs.Keeps.{GoodState, holding-value}
 use Rattle.steps.proofs.CheckingOrder.{applying, none-accepts, none-applies}
 use Rattle.trace.specs.Trace.{callIn, saidTo}
 use Rattle.demand3.specs.Claim.{nextCall, release, woken}
-use Rattle.demand3.proofs.Status.{statusOf}
+use Rattle.demand3.proofs.Status.{numberFor, statusOf}
 use Rattle.demand3.proofs.Turn.{same-turn, turn-found, turn-up, up-count, up-inside}
 
 -- ---- the nextCall calls as events
@@ -38,7 +38,7 @@ one-byte : (b : ℕ) → numberOf (b ∷ []) ≡ b
 unfolding numberOf
 one-byte b = omega arith
 
-receive-call : (h : ℕ) (p : Purpose) → callIn (nextCall h (woken p)) ≡ given (Event.Receive h)
+receive-call : (h p : ℕ) → callIn (nextCall h (woken p)) ≡ given (Event.Receive h)
 unfolding fieldsIn
 receive-call h p = rw (one-byte h)
 
@@ -46,11 +46,11 @@ no-count : numberOf (0 ∷ 0 ∷ []) ≡ 0
 unfolding numberOf
 no-count = refl
 
-take-call : (h : ℕ) → callIn (release h Purpose.SharedWrite) ≡ given (Event.Take h 0)
+take-call : (h p : ℕ) → eqb p 2 ≡ false → callIn (release h p) ≡ given (Event.Take h 0)
 unfolding fieldsIn
-take-call h = rw (one-byte h, no-count)
+take-call h p e = rw (e, one-byte h, no-count)
 
-free-call : (h : ℕ) → callIn (release h Purpose.WholeBook) ≡ given (Event.Free h)
+free-call : (h : ℕ) → callIn (release h 2) ≡ given (Event.Free h)
 unfolding fieldsIn
 free-call h = rw (one-byte h)
 
@@ -79,9 +79,9 @@ module _ (x : State) (G : GoodState x) (h : ℕ) (inside : h < x .line .lanes) w
   onward-goes : (y : Phase) → phaseAt (x .line) h ≡ y → hasTurn y ≡ true → saidTo nextLane x (nextCall h (statusOf y)) .accepted ≡ true
   onward-goes Phase.Idle e t = clash (sym t)
   onward-goes (Phase.Waiting p) e t = clash (sym t)
-  onward-goes (Phase.Woken p v) e t = rw (receive-call h p) (receive-goes p v e)
-  onward-goes (Phase.Holding Purpose.SharedWrite v) e t = rw (take-call h) (accepted-by (Event.Take h 0) (rw (is-sound, opened-line, a-lane, e)))
-  onward-goes (Phase.Holding Purpose.SharedRead v) e t = rw (take-call h) (accepted-by (Event.Take h 0) (rw (is-sound, opened-line, a-lane, e, low Purpose.SharedRead v e)))
+  onward-goes (Phase.Woken p v) e t = rw (receive-call h (numberFor p)) (receive-goes p v e)
+  onward-goes (Phase.Holding Purpose.SharedWrite v) e t = rw (take-call h 0 refl) (accepted-by (Event.Take h 0) (rw (is-sound, opened-line, a-lane, e)))
+  onward-goes (Phase.Holding Purpose.SharedRead v) e t = rw (take-call h 1 refl) (accepted-by (Event.Take h 0) (rw (is-sound, opened-line, a-lane, e, low Purpose.SharedRead v e)))
   onward-goes (Phase.Holding Purpose.WholeBook v) e t = rw (free-call h) (accepted-by (Event.Free h) (rw (is-sound, opened-line, a-lane, e)))
   onward-goes (Phase.BusyWriting n k) e t = clash (sym t)
   onward-goes (Phase.BusyReading n k) e t = clash (sym t)

@@ -8,9 +8,9 @@ use native.Mathlib.Nat.{add-zero, suc-add, zero-add}
 use native.Mathlib.Decide.{ℕ-discrete}
 use lib.ListN.{getD, set}
 use lib.Dec.{eqb, leb}
-use borrow.Author.Tests.{eq-eqb, ne-eqb}
+use borrow.Author.Tests.{eq-eqb, eqb-true, ne-eqb}
 use Rattle.lists.specs.Lists.{allPass, countPass, sumOf}
-use Rattle.lists.proofs.Tests.{at-test, by-test, clash}
+use Rattle.lists.proofs.Tests.{at-test, both, by-test, clash}
 use Rattle.lists.proofs.Counts.{bit-zero}
 use Rattle.view.specs.View.{place, recordEnd}
 use Rattle.view.specs.declared.Place.{Place}
@@ -32,8 +32,8 @@ use Rattle.steps.proofs.Cases.{Steps, enters, frees, looks, opens, puts, reads,
 use Rattle.steps.proofs.Keeps.{GoodState, fresh-idle, holding-value}
 use Rattle.steps.proofs.Ordered.{busy-by, entered-all, started-by}
 use Rattle.steps.proofs.Stored.{other-phase, placed, same-phase}
-use Rattle.trace.specs.Trace.{Entry, CallBytes, afterAll, callIn, entries, isReset, value}
-use Rattle.demand3.specs.Claim.{OrderedEntry, Grant, Handed, countFor, enteredAfter, enteredNext, grants, grantsBy, handTo, handed, placesFrom, shares}
+use Rattle.trace.specs.Trace.{CallBytes, Entry, afterAll, callIn, entries, hasValues, isReset, value}
+use Rattle.demand3.specs.Claim.{OrderedEntry, Grant, Handed, countFor, enteredAfter, enteredNext, grants, grantsBy, handTo, handed, handsOut, placesFrom, shares}
 use Rattle.trace.proofs.Seen.{by-entry, entryOf}
 use Rattle.demand3.proofs.Trace.{entryOn, then, then-good}
 
@@ -112,6 +112,7 @@ pub record Moves (x : State) (ns : List OrderedEntry) (e : Entry) (r : Result) :
   pub in-order : map (λ (h : Handed). h .place) (handed (grantsBy (x .line .lanes) ns e)) ≡ placesFrom (x .line .pointer .0) (total (grantsBy (x .line .lanes) ns e))
   pub gathers : Gathers (enteredNext ns e) (r .after .line)
   pub lanes : r .after .line .lanes ≡ x .line .lanes
+  pub told : handsOut e ≡ true → value 1 e ≡ total (grantsBy (x .line .lanes) ns e)
 
 wake-pointer : (t : Line) (w : Wakes) → wake t w .pointer ≡ t .pointer
 wake-pointer t (Wakes.Lane i) = refl
@@ -151,34 +152,36 @@ wake-count t Wakes.None r = refl
 module _ (x : State) (G : GoodState x) (ns : List OrderedEntry) (C : Gathers ns (x .line)) where
   -- a step that hands nothing out, after which every lane has the count that it had
   hands-out-nothing : (e : Entry) (r : Result) → grantsBy (x .line .lanes) ns e ≡ [] → enteredNext ns e ≡ ns → r .after .line .pointer .0 ≡ x .line .pointer .0
-      → r .after .line .lanes ≡ x .line .lanes → ((k : ℕ) → countIn (phaseAt (r .after .line) k) ≡ countIn (phaseAt (x .line) k)) → Moves x ns e r
+      → r .after .line .lanes ≡ x .line .lanes → handsOut e ≡ false → ((k : ℕ) → countIn (phaseAt (r .after .line) k) ≡ countIn (phaseAt (x .line) k)) → Moves x ns e r
   unfolding handed placesFrom
-  hands-out-nothing e r g n p q c =
+  hands-out-nothing e r g n p q o c =
       record {
         pointer = rw g (omega arith);
         in-order = rw g nothing;
         gathers = record { each = λ k. rw n (C .each k ∙ sym (c k)) };
         lanes = q;
+        told = λ z. both z o;
       }
     where
       nothing : map (λ (h : Handed). h .place) (handed []) ≡ placesFrom (x .line .pointer .0) 0
       nothing = refl
 
   -- lane j changes between phases with no count
-  quiet-at : (j : ℕ) (o y : Phase) → phaseAt (x .line) j ≡ o → countIn o ≡ 0 → countIn y ≡ 0 → (k : ℕ) → countIn ((getD (placed (x .line) j y) k idleLane) .phase) ≡ countIn (phaseAt (x .line) k)
-  quiet-at j o y e a b k = same-count (x .line) j k y (b ∙ sym (ap countIn e ∙ a))
+  same-counts : (j : ℕ) (o y : Phase) → phaseAt (x .line) j ≡ o → countIn o ≡ 0 → countIn y ≡ 0 → (k : ℕ) → countIn ((getD (placed (x .line) j y) k idleLane) .phase) ≡ countIn (phaseAt (x .line) k)
+  same-counts j o y e a b k = same-count (x .line) j k y (b ∙ sym (ap countIn e ∙ a))
 
   -- a take by lane j, which holds with the pointer
   take-moves : (e : Entry) (r : Result) (j c : ℕ) (p : Purpose) (v : Place) (y : Phase) → phaseAt (x .line) j ≡ Phase.Holding p v → countIn y ≡ 0
-      → grantsBy (x .line .lanes) ns e ≡ record { lane = j; from = v .0; count = c } ∷ [] → enteredNext ns e ≡ ns
+      → grantsBy (x .line .lanes) ns e ≡ record { lane = j; from = v .0; count = c } ∷ [] → enteredNext ns e ≡ ns → value 1 e ≡ c
       → r .after .line ≡ released nextLane (lowered (x .line) j y (place (v .0 + c))) j → Moves x ns e r
-  take-moves e r j c p v y q cy g n al =
+  take-moves e r j c p v y q cy g n count al =
       let value = holding-value (x .line) (G .facts) j p v q in
       record {
         pointer = rw (g, al, wake-pointer (lowered (x .line) j y (place (v .0 + c))) (nextOf nextLane (lowered (x .line) j y (place (v .0 + c))) j)) (omega arith);
         in-order = rw g (one-grant (record { lane = j; from = v .0; count = c }) ∙ ap (λ (m : ℕ). placesFrom m (c + 0)) value);
-        gathers = record { each = λ k. rw (n, al) (C .each k ∙ sym (wake-count (lowered (x .line) j y (place (v .0 + c))) (nextOf nextLane (lowered (x .line) j y (place (v .0 + c))) j) k ∙ quiet-at j (Phase.Holding p v) y q refl cy k)) };
+        gathers = record { each = λ k. rw (n, al) (C .each k ∙ sym (wake-count (lowered (x .line) j y (place (v .0 + c))) (nextOf nextLane (lowered (x .line) j y (place (v .0 + c))) j) k ∙ same-counts j (Phase.Holding p v) y q refl cy k)) };
         lanes = rw al (wake-lanes (lowered (x .line) j y (place (v .0 + c))) (nextOf nextLane (lowered (x .line) j y (place (v .0 + c))) j));
+        told = λ z. rw g (count ∙ sym (add-zero c));
       }
 
   -- lane j enters with count c
@@ -209,34 +212,35 @@ module _ (x : State) (G : GoodState x) (ns : List OrderedEntry) (C : Gathers ns 
         in-order = shares-range ms 0 (x .line .pointer .0) (x .line .lanes);
         gathers = record { each = λ r. sym (started-by (λ (y : Phase). countIn y ≡ 0) refl (λ n v. refl) (x .line .pointer .0) (entered (x .line) j c) (entered-all (x .line) j c g) r) };
         lanes = refl;
+        told = λ z. sym sum;
       }
 
   pub moves : (e : Event) (d : Entry) (r : Result) → Steps nextLane x (given e) r → isReset (entryOf e d (saidBy (r .answer))) ≡ false → Moves x ns (entryOf e d (saidBy (r .answer))) r
-  moves e d r (refuses n) f = hands-out-nothing _ _ refl refl refl refl (λ k. refl)
+  moves e d r (refuses n) f = hands-out-nothing _ _ refl refl refl refl refl (λ k. refl)
   moves e d r (opens lanes capacity z a b c g h) f = clash f
-  moves e d r (wants j p h q g) f =
+  moves e d r (wants j p h q g m) f =
       at-test (λ (t : Result). Moves x ns (entryOf (Event.Want j p) d (saidBy (t .answer))) t) (othersDown (x .line) j) _ _
-      (λ t. hands-out-nothing _ _ refl refl refl refl (quiet-at j Phase.Idle (Phase.Holding (purposeOf p) (x .line .pointer)) q refl refl))
-      (λ t. hands-out-nothing _ _ refl refl refl refl (quiet-at j Phase.Idle (Phase.Waiting (purposeOf p)) q refl refl))
-  moves e d r (receives j p v h q) f = hands-out-nothing _ _ refl refl refl refl (quiet-at j (Phase.Woken p v) (Phase.Holding p v) q refl refl)
-  moves e d r (take-writes j c v h q g) f = take-moves _ _ j c Purpose.SharedWrite v (writing c v) q (busy-count c (Phase.BusyWriting c v) refl) refl refl refl
-  moves e d r (take-reads j c v h q g) f = take-moves _ _ j c Purpose.SharedRead v (reading c v) q (busy-count c (Phase.BusyReading c v) refl) refl refl refl
+      (λ t. hands-out-nothing _ _ refl refl refl refl refl (same-counts j Phase.Idle (Phase.Holding (purposeOf p) (x .line .pointer)) q refl refl))
+      (λ t. hands-out-nothing _ _ refl refl refl refl refl (same-counts j Phase.Idle (Phase.Waiting (purposeOf p)) q refl refl))
+  moves e d r (receives j p v h q) f = hands-out-nothing _ _ refl refl refl refl refl (same-counts j (Phase.Woken p v) (Phase.Holding p v) q refl refl)
+  moves e d r (take-writes j c v h q g) f = take-moves _ _ j c Purpose.SharedWrite v (writing c v) q (busy-count c (Phase.BusyWriting c v) refl) refl refl refl refl
+  moves e d r (take-reads j c v h q g) f = take-moves _ _ j c Purpose.SharedRead v (reading c v) q (busy-count c (Phase.BusyReading c v) refl) refl refl refl refl
   moves e d r (writes j content n k h q) f =
-      hands-out-nothing _ _ refl refl refl refl (quiet-at j (Phase.BusyWriting n k) (oneLess (Phase.BusyWriting n k)) q refl (busy-count (n - 1) (Phase.BusyWriting (n - 1) (place (k .0 + 1))) refl))
+      hands-out-nothing _ _ refl refl refl refl refl (same-counts j (Phase.BusyWriting n k) (oneLess (Phase.BusyWriting n k)) q refl (busy-count (n - 1) (Phase.BusyWriting (n - 1) (place (k .0 + 1))) refl))
   moves e d r (reads j n k h q) f =
-      let c = quiet-at j (Phase.BusyReading n k) (oneLess (Phase.BusyReading n k)) q refl (busy-count (n - 1) (Phase.BusyReading (n - 1) (place (k .0 + 1))) refl) in
-      by-test (leb (recordEnd (x .line .view) k) (x .line .size)) (λ t. rw t (hands-out-nothing _ _ refl refl refl refl c)) (λ t. rw t (hands-out-nothing _ _ refl refl refl refl c))
-  moves e d r (puts j k content v h q g) f = hands-out-nothing _ _ refl refl refl refl (λ m. refl)
+      let c = same-counts j (Phase.BusyReading n k) (oneLess (Phase.BusyReading n k)) q refl (busy-count (n - 1) (Phase.BusyReading (n - 1) (place (k .0 + 1))) refl) in
+      by-test (leb (recordEnd (x .line .view) k) (x .line .size)) (λ t. rw t (hands-out-nothing _ _ refl refl refl refl refl c)) (λ t. rw t (hands-out-nothing _ _ refl refl refl refl refl c))
+  moves e d r (puts j k content v h q g) f = hands-out-nothing _ _ refl refl refl refl refl (λ m. refl)
   moves e d r (looks j k v h q) f =
-      by-test (leb (recordEnd (x .line .view) k) (x .line .size)) (λ t. rw t (hands-out-nothing _ _ refl refl refl refl (λ m. refl))) (λ t. rw t (hands-out-nothing _ _ refl refl refl refl (λ m. refl)))
+      by-test (leb (recordEnd (x .line .view) k) (x .line .size)) (λ t. rw t (hands-out-nothing _ _ refl refl refl refl refl (λ m. refl))) (λ t. rw t (hands-out-nothing _ _ refl refl refl refl refl (λ m. refl)))
   moves e d r (frees j v h q) f =
       let t = freed (x .line) j in
-      hands-out-nothing _ _ refl refl (ap (λ (k : Place). k .0) (wake-pointer t (nextOf nextLane t j))) (wake-lanes t (nextOf nextLane t j))
-      (λ k. wake-count t (nextOf nextLane t j) k ∙ quiet-at j (Phase.Holding Purpose.WholeBook v) Phase.Idle q refl refl k)
+      hands-out-nothing _ _ refl refl (ap (λ (k : Place). k .0) (wake-pointer t (nextOf nextLane t j))) (wake-lanes t (nextOf nextLane t j)) refl
+      (λ k. wake-count t (nextOf nextLane t j) k ∙ same-counts j (Phase.Holding Purpose.WholeBook v) Phase.Idle q refl refl k)
   moves e d r (enters j c h q g o) f =
       at-test (λ (t : Result). Moves x ns (entryOf (Event.Enter j c) d (saidBy (t .answer))) t) (allEntered (x .line) (entered (x .line) j c)) _ _
       (λ t. complete-moves j c h q g d)
-      (λ t. record { pointer = omega arith; in-order = nothing-handed; gathers = record { each = enter-counts j c h }; lanes = refl })
+      (λ t. record { pointer = omega arith; in-order = nothing-handed; gathers = record { each = enter-counts j c h }; lanes = refl; told = λ z. clash (sym z) })
   moves e d r (views displacement extent used blocks z o g) f = clash f
   moves e d r (seeks whence offset n z t m g) f = clash f
 
@@ -247,7 +251,7 @@ pub record Placed (x : State) (gs : List CallBytes) (ns : List OrderedEntry) : T
 
 moves-on : (x : State) → GoodState x → (ns : List OrderedEntry) → Gathers ns (x .line) → (g : CallBytes) → isReset (entryOn x g) ≡ false → Moves x ns (entryOn x g) (stepBy nextLane x (callIn g))
 moves-on x G ns C g =
-    by-entry x g (λ (e : Entry) (r : Result). isReset e ≡ false → Moves x ns e r) (λ d n f. hands-out-nothing x G ns C _ _ refl refl refl refl (λ k. refl)) (moves x G ns C)
+    by-entry x g (λ (e : Entry) (r : Result). isReset e ≡ false → Moves x ns e r) (λ d n f. hands-out-nothing x G ns C _ _ refl refl refl refl refl (λ k. refl)) (moves x G ns C)
 
 sums : (a b c p q : ℕ) → a ≡ q + c → q ≡ p + b → a ≡ p + (b + c)
 sums a b c p q e f = omega arith
@@ -289,7 +293,7 @@ reset-gathers x G ns C g =
     resets e d r (refuses n) f = clash (sym f)
     resets e d r (opens lanes capacity z a b c i h) f =
         record { each = λ k. C .each k ∙ ap countIn (G .facts .base .past k (omega arith)) ∙ sym (ap countIn (fresh-idle lanes capacity k)) }
-    resets e d r (wants j p h q i) f = no-reset (saidBy (r .answer) .accepted) f
+    resets e d r (wants j p h q i m) f = no-reset (saidBy (r .answer) .accepted) f
     resets e d r (receives j p v h q) f = clash (sym f)
     resets e d r (take-writes j c v h q i) f = clash (sym f)
     resets e d r (take-reads j c v h q i) f = clash (sym f)
@@ -313,3 +317,19 @@ gathers-all (g ∷ gs) x ns G C =
 pub start-gathers : (book : List ℕ) → Gathers [] (fresh book .line)
 unfolding countFor
 start-gathers book = record { each = λ r. sym (ap countIn (fresh-idle 0 0 r)) }
+
+-- ---- the counts that the answers tell
+no-count : {X : Type 0} (b c : Bool) → b && false || (b && false) && c ≡ true → X
+no-count true c e = clash (sym e)
+no-count false c e = clash (sym e)
+
+-- a reset hands nothing out
+reset-none : {X : Type 0} (e : Entry) → isReset e ≡ true → handsOut e ≡ true → X
+reset-none e f t =
+    by-test (eqb (e .kind) 0x04) (λ k. no-reset (e .said .accepted) (rw (eqb-true (e .kind) 0x04 k) at f))
+    (λ k. by-test (eqb (e .kind) 0x0A) (λ m. no-reset (e .said .accepted) (rw (eqb-true (e .kind) 0x0A m) at f))
+    (λ m. no-count (e .said .accepted) (eqb (e .said .number) 0x0A && hasValues e) (rw (k, m) at t)))
+
+pub count-told : (x : State) → GoodState x → (ns : List OrderedEntry) → Gathers ns (x .line) → (g : CallBytes) → handsOut (entryOn x g) ≡ true
+    → value 1 (entryOn x g) ≡ total (grantsBy (x .line .lanes) ns (entryOn x g))
+count-told x G ns C g t = by-test (isReset (entryOn x g)) (λ f. reset-none (entryOn x g) f t) (λ f. moves-on x G ns C g f .told t)

@@ -1,7 +1,7 @@
 -- How a lane stands, read off the calls and answers, is what its phase says.
-use Prim.Native.Nat.{ℕ, _+_, _-_, _<_}
+use Prim.Native.Nat.{ℕ, zero, suc, _+_, _-_, _≤_, _<_}
 use mathlib.Core.Path.{_≡_, refl, sym, ap, _∙_}
-use mathlib.Core.Bool.{true, false, cond, _&&_, and-false, or-false}
+use mathlib.Core.Bool.{true, false, cond, or-false}
 use mathlib.Core.List.{List, [], _∷_}
 use native.Mathlib.Omega.{arith}
 use native.Mathlib.Decide.{ℕ-discrete}
@@ -35,11 +35,23 @@ use Rattle.demand3.specs.Claim.{Status, statusHasTurn, holding, statusWa
 use Rattle.trace.proofs.Seen.{by-entry, entryOf}
 use Rattle.demand3.proofs.Trace.{entryOn, then, then-good}
 
+-- the number of a purpose, by which the claim speaks
+abbrev pub numberFor : Purpose → ℕ
+numberFor Purpose.SharedWrite = 0
+numberFor Purpose.SharedRead = 1
+numberFor Purpose.WholeBook = 2
+
+number-kept : (n : ℕ) → n ≤ 2 → numberFor (purposeOf n) ≡ n
+number-kept zero h = refl
+number-kept (suc zero) h = refl
+number-kept (suc (suc zero)) h = refl
+number-kept (suc (suc (suc n))) h = absurd (omega arith)
+
 abbrev pub statusOf : Phase → Status
 statusOf Phase.Idle = off
-statusOf (Phase.Waiting p) = waiting p
-statusOf (Phase.Woken p v) = woken p
-statusOf (Phase.Holding p v) = holding p
+statusOf (Phase.Waiting p) = waiting (numberFor p)
+statusOf (Phase.Woken p v) = woken (numberFor p)
+statusOf (Phase.Holding p v) = holding (numberFor p)
 statusOf (Phase.BusyWriting n k) = off
 statusOf (Phase.BusyReading n k) = off
 statusOf (Phase.Gathered n) = off
@@ -141,10 +153,6 @@ module _ (x : State) (G : GoodState x) (i : ℕ) where
   own-stand : (j : ℕ) (y : Phase) (s : Status) → j < x .line .lanes → statusOf y ≡ s → cond (eqb j i) s now ≡ statusOf ((getD (placed (x .line) j y) i idleLane) .phase)
   own-stand j y s h e = sym (stored-stand j y h ∙ ap (λ (t : Status). cond (eqb j i) t now) e)
 
-  -- the lane of a want that is told to wait
-  told-waits : (j : ℕ) (a b : Status) → cond (eqb j i) (cond (eqb j i && true) a b) now ≡ cond (eqb j i) a now
-  told-waits j a b = by-test (eqb j i) (λ t. rw t) (λ t. rw t)
-
   receive-stand : (j : ℕ) (p : Purpose) (v : Place) → j < x .line .lanes → phaseAt (x .line) j ≡ Phase.Woken p v
       → cond (eqb j i) (holding (purposeFor now)) now ≡ statusOf ((getD (placed (x .line) j (Phase.Holding p v)) i idleLane) .phase)
   receive-stand j p v h e =
@@ -157,10 +165,10 @@ module _ (x : State) (G : GoodState x) (i : ℕ) where
   stand-event e d r (refuses n) = record { is = refl }
   stand-event e d r (opens lanes capacity z a b c f g) =
       record { is = ap statusOf (G .facts .base .past i (omega arith)) ∙ sym (ap statusOf (fresh-idle lanes capacity i)) }
-  stand-event e d r (wants j p h q g) =
+  stand-event e d r (wants j p h q g m) =
       at-test (λ (t : Result). Stood now i (entryOf (Event.Want j p) d (saidBy (t .answer))) t) (othersDown (x .line) j) _ _
-      (λ t. record { is = rw (and-false (eqb j i)) (own-stand j (Phase.Holding (purposeOf p) (x .line .pointer)) (holding (purposeOf p)) h refl) })
-      (λ t. record { is = told-waits j (waiting (purposeOf p)) (holding (purposeOf p)) ∙ own-stand j (Phase.Waiting (purposeOf p)) (waiting (purposeOf p)) h refl })
+      (λ t. record { is = own-stand j (Phase.Holding (purposeOf p) (x .line .pointer)) (holding p) h (ap holding (number-kept p m)) })
+      (λ t. record { is = own-stand j (Phase.Waiting (purposeOf p)) (waiting p) h (ap waiting (number-kept p m)) })
   stand-event e d r (receives j p v h q) = record { is = receive-stand j p v h q }
   stand-event e d r (take-writes j c v h q f) =
       leaves-stand _ _ j (Phase.Holding Purpose.SharedWrite v) (writing c v) (place (v .0 + c)) refl refl refl (busy-off c (Phase.BusyWriting c v) refl) (take-writes-leaving (x .line) (G .facts) j c v h q f)

@@ -6,7 +6,7 @@ use mathlib.Core.List.{List, [], _∷_, _++_}
 use native.Mathlib.Omega.{arith}
 use lib.Dec.{leb}
 use Rattle.lists.specs.Lists.{countPass}
-use Rattle.lists.proofs.Tests.{and-left, by-test}
+use Rattle.lists.proofs.Tests.{and-left, and-right, by-test}
 use Rattle.view.specs.View.{recordEnd}
 use Rattle.line.specs.declared.Phase.{Phase}
 use Rattle.line.specs.declared.Purpose.{Purpose}
@@ -17,14 +17,14 @@ use Rattle.event.specs.Event.{given}
 use Rattle.event.specs.declared.Event.{Event}
 use Rattle.steps.specs.Answer.{saidBy}
 use Rattle.steps.specs.State.{Result, State, fresh}
-use Rattle.steps.specs.Effects.{allEntered, entered, freed, nextOf, othersDown, purposeOf, taken}
+use Rattle.steps.specs.Effects.{allEntered, entered, freed, nextOf, othersDown, taken}
 use Rattle.steps.specs.Step.{afterBy}
 use Rattle.steps.proofs.Cases.{Steps, enters, frees, looks, opens, puts, reads, receives, refuses, seeks, take-reads, take-writes, views, wants, writes}
 use Rattle.steps.proofs.Keeps.{GoodState, fresh-idle, unopened-good}
-use Rattle.trace.specs.Trace.{Entry, CallBytes, afterAll, entries, isAccepted, isReset, lanesIn, tellsToWait, value, wantsBy}
-use Rattle.demand3.specs.Claim.{DemandThree, InOrder, NextAccepted, OneTurn, OnlyTurn, Status, WaitEnds, entriesAfter, enteredAfter, entriesOf, entryAfter, grants, statusHasTurn, statusWaits, off, status, statusNext, waiting}
+use Rattle.trace.specs.Trace.{Entry, CallBytes, afterAll, answersWaits, entries, isAccepted, isReset, lanesIn, tellsToWait, value, wantsBy}
+use Rattle.demand3.specs.Claim.{CountTold, DemandThree, InOrder, NextAccepted, OneTurn, OnlyTurn, Status, WaitEnds, entriesAfter, enteredAfter, entriesOf, entryAfter, grants, handsOut, statusHasTurn, statusWaits, off, status, statusNext, waiting}
 use Rattle.demand3.proofs.Goes.{OnlyPhase, goes, only-turn}
-use Rattle.demand3.proofs.Places.{all-placed, gathers-all, start-gathers, total, wake-lanes}
+use Rattle.demand3.proofs.Places.{all-placed, count-told, gathers-all, start-gathers, total, wake-lanes}
 use Rattle.trace.proofs.Seen.{by-entry, entryOf}
 use Rattle.demand3.proofs.Status.{stand-call, statusOf, stands, turn-is, waits-is}
 use Rattle.demand3.proofs.Trace.{entryOn, fair, sent, single, then, then-good}
@@ -52,7 +52,7 @@ lanes-call x g =
     lanes-event : (e : Event) (d : Entry) (r : Result) → Steps nextLane x (given e) r → cond (isAccepted 0x01 (entryOf e d (saidBy (r .answer)))) (value 0 (entryOf e d (saidBy (r .answer)))) (x .line .lanes) ≡ r .after .line .lanes
     lanes-event e d r (refuses n) = refl
     lanes-event e d r (opens lanes capacity z a b c i h) = refl
-    lanes-event e d r (wants j p h q i) = by-test (othersDown (x .line) j) (λ t. rw t) (λ t. rw t)
+    lanes-event e d r (wants j p h q i m) = by-test (othersDown (x .line) j) (λ t. rw t) (λ t. rw t)
     lanes-event e d r (receives j p v h q) = refl
     lanes-event e d r (take-writes j c v h q i) = let t = taken (x .line) j c (Phase.Holding Purpose.SharedWrite v) in sym (wake-lanes t (nextOf nextLane t j))
     lanes-event e d r (take-reads j c v h q i) = let t = taken (x .line) j c (Phase.Holding Purpose.SharedRead v) in sym (wake-lanes t (nextOf nextLane t j))
@@ -117,7 +117,8 @@ module _ (book : List ℕ) (early : List CallBytes) where
   told-waits told i t =
       let e = entryAfter nextLane book early told in
       let w : wantsBy i e ≡ true = and-left (wantsBy i e) _ t in
-      let s : statusNext i (statusOf (phaseAt (here .line) i)) e ≡ waiting (purposeOf (e .purpose)) = rw (t, w) in
+      let a : answersWaits e ≡ true = and-right (wantsBy i e) (answersWaits e) t in
+      let s : statusNext i (statusOf (phaseAt (here .line) i)) e ≡ waiting (e .purpose) = rw (w, a) in
       sym (waits-is (phaseAt (then here told .line) i)) ∙ ap statusWaits (sym (stand-call here good i told) ∙ s)
 
 -- ---- the places
@@ -134,6 +135,12 @@ module _ (book : List ℕ) (early later : List CallBytes) (first : CallBytes) wh
       let m : here book (begun ++ later) .line .pointer .0 - here book begun .line .pointer .0 ≡ total (grants (here book begun .line .lanes) ns (entriesAfter nextLane book begun later)) = omega (arith, last) in
       record { places = rw (n, m) (P .in-order); last = rw n last }
 
+-- ---- the counts that are answered
+told-here : (book : List ℕ) (early : List CallBytes) (g : CallBytes) → handsOut (entryAfter nextLane book early g) ≡ true → CountTold nextLane book early g
+told-here book early g t =
+    let C = gathers-all early (fresh book) [] (unopened-good book) (start-gathers book) in
+    rw (lanes-here book early) (count-told (here book early) (good book early) (enteredAfter [] (entriesOf nextLane book early)) C g t)
+
 pub demand-three : DemandThree
 demand-three book calls =
     record {
@@ -141,4 +148,5 @@ demand-three book calls =
       one-turn = λ early rest i q w. turn-here book early i w;
       goes-on = λ early rest h q t. goes-here book early h t;
       in-order = λ early later rest first q r z. placed-here book early later first z;
+      counts-told = λ early rest g q t. told-here book early g t;
     }

@@ -161,7 +161,7 @@ module _ (x : State) (G : GoodState x) (i h : ℕ) (wi : isWaiting (phaseAt (x .
   pub turn : (e : Event) (d : Entry) (r : Result) → Steps nextLane x (given e) r → Turn x i h (entryOf e d (saidBy (r .answer))) r
   turn e d r (refuses n) = no-release refl (λ j. refl) refl wi th
   turn e d r (opens lanes capacity z a b c f g) = absurd (omega (arith, inside))
-  turn e d r (wants j p hj q g) =
+  turn e d r (wants j p hj q g m) =
       at-test (λ (t : Result). Turn x i h (entryOf (Event.Want j p) d (saidBy (t .answer))) t) (othersDown (x .line) j) _ _
       (λ t. absurd (omega (arith, some-up, others-none (x .line) (G .facts) j hj q t)))
       (λ t. let k = kept j Phase.Idle (Phase.Waiting (purposeOf p)) q refl refl in no-release refl (λ m. refl) refl (k .0) (k .1))
@@ -227,7 +227,7 @@ module _ (x : State) (G : GoodState x) (i : ℕ) (wi : isWaiting (phaseAt (x .li
   pub rests : (e : Event) (d : Entry) (r : Result) → Steps nextLane x (given e) r → Rests i (entryOf e d (saidBy (r .answer))) r
   rests e d r (refuses n) = record { unwoken = refl; unwaiting = inr wi }
   rests e d r (opens lanes capacity z a b c f g) = record { unwoken = refl; unwaiting = inr (rw (fresh-idle lanes capacity i)) }
-  rests e d r (wants j p hj q g) =
+  rests e d r (wants j p hj q g m) =
       at-test (λ (t : Result). Rests i (entryOf (Event.Want j p) d (saidBy (t .answer))) t) (othersDown (x .line) j) _ _
       (λ t. record { unwoken = refl; unwaiting = wanted j (Phase.Holding (purposeOf p) (x .line .pointer)) })
       (λ t. record { unwoken = refl; unwaiting = wanted j (Phase.Waiting (purposeOf p)) })

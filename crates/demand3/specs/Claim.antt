@@ -1,26 +1,25 @@
 -- Demand 3 as one claim about every list of calls: what a reader must believe, and no proof. docs/DEMAND3.md goes through it.
 use Prim.Native.Nat.{ℕ, zero, suc, _+_, _-_, _≤_}
 use mathlib.Core.Path.{_≡_}
-use mathlib.Core.Bool.{Bool, true, false, cond, _&&_}
+use mathlib.Core.Bool.{Bool, true, false, cond, _&&_, _||_}
 use mathlib.Core.List.{List, [], _∷_, _++_, map}
 use lib.Dec.{eqb}
 use Rattle.lists.specs.Lists.{countPass, sumOf}
-use Rattle.line.specs.declared.Purpose.{Purpose}
 use Rattle.waitlist.specs.Distance.{distance}
 use Rattle.waitlist.specs.NextLane.{nextLane}
 use Rattle.steps.specs.State.{fresh}
-use Rattle.steps.specs.Effects.{Search, purposeOf}
-use Rattle.trace.specs.Trace.{CallBytes, Entry, afterAll, entries, entry, hasValues, isAccepted, isRelease, isReset, lanesIn, receivesBy, saidTo, tellsToWait, value, wakes, wantsBy}
+use Rattle.steps.specs.Effects.{Search}
+use Rattle.trace.specs.Trace.{CallBytes, Entry, afterAll, answersHolds, answersWaits, entries, entry, hasValues, isAccepted, isRelease, isReset, lanesIn, receivesBy, saidTo, tellsToWait, value, wakes, wantsBy}
 
 -- ---- how a lane stands
 pub data Status : Type 0 where
   -- none of these
   off : Status
-  -- told to wait and its wake not sent; its wake under way; holding
-  waiting woken holding : Purpose → Status
+  -- told to wait and its wake not sent; its wake under way; holding: each with the number of its purpose, as its want gave it
+  waiting woken holding : ℕ → Status
 
-abbrev pub purposeFor : Status → Purpose
-purposeFor off = Purpose.SharedWrite
+abbrev pub purposeFor : Status → ℕ
+purposeFor off = 0
 purposeFor (waiting p) = p
 purposeFor (woken p) = p
 purposeFor (holding p) = p
@@ -29,8 +28,8 @@ purposeFor (holding p) = p
 -- to its want or receive, until its accepted release"
 abbrev pub statusNext : ℕ → Status → Entry → Status
 statusNext i s e =
-    cond (wantsBy i e) (cond (tellsToWait i e) (waiting (purposeOf (e .purpose))) (holding (purposeOf (e .purpose))))
-    (cond (receivesBy i e) (holding (purposeFor s))
+    cond (wantsBy i e) (cond (answersWaits e) (waiting (e .purpose)) (cond (answersHolds e) (holding (e .purpose)) off))
+    (cond (receivesBy i e) (cond (answersHolds e) (holding (purposeFor s)) off)
     (cond (wakes i e) (woken (purposeFor s))
     (cond (isRelease e && eqb (e .lane) i) off
     s)))
@@ -58,10 +57,8 @@ pub record OnlyTurn (es : List Entry) (h : ℕ) : Type 0 where
   pub only : (j : ℕ) → statusHasTurn (status j off es) ≡ true → j ≡ h
 
 -- the call by which lane h goes on: "03 while the wake is under way; 04 with count 0 by a holder of purpose 0 or 1; 09 by one of purpose 2"
-abbrev pub release : ℕ → Purpose → CallBytes
-release h Purpose.SharedWrite = record { kind = 0x04; body = h ∷ 0 ∷ 0 ∷ [] }
-release h Purpose.SharedRead = record { kind = 0x04; body = h ∷ 0 ∷ 0 ∷ [] }
-release h Purpose.WholeBook = record { kind = 0x09; body = h ∷ [] }
+abbrev pub release : ℕ → ℕ → CallBytes
+release h purpose = cond (eqb purpose 2) (record { kind = 0x09; body = h ∷ [] }) (record { kind = 0x04; body = h ∷ 0 ∷ 0 ∷ [] })
 
 abbrev pub nextCall : ℕ → Status → CallBytes
 nextCall h off = record { kind = 0; body = [] }
@@ -101,6 +98,10 @@ enteredBy e = record { lane = e .lane; count = e .count }
 -- the 0A that completes an ordered call: its answer has values, those of the others have none
 abbrev pub completes : Entry → Bool
 completes e = isAccepted 0x0A e && (eqb (e .said .number) 0x0A && hasValues e)
+
+-- an accepted 04, or the 0A that completes an ordered call
+abbrev pub handsOut : Entry → Bool
+handsOut e = isAccepted 0x04 e || completes e
 
 -- the accepted 0A after one more entry
 abbrev pub enteredNext : List OrderedEntry → Entry → List OrderedEntry
@@ -194,6 +195,11 @@ module _ (search : Search) (book : List ℕ) where
     pub places : map (λ (h : Handed). h .place) (handed (grantsIn early later)) ≡ placesFrom (pointerAfter early) (pointerAfter (early ++ later) - pointerAfter early)
     pub last : pointerAfter (early ++ later) ≡ pointerAfter early + sumOf (λ (g : Grant). g .count) (grantsIn early later)
 
+  -- the count of a region, or the total of an ordered call, that call g answers is the number of places that it hands out
+  abbrev pub CountTold : List CallBytes → CallBytes → Type 0
+  CountTold early g =
+      value 1 (entryAfter early g) ≡ sumOf (λ (n : Grant). n .count) (grantsBy (lanesAfter early) (enteredAfter [] (entriesOf early)) (entryAfter early g))
+
   pub record Demand3 (calls : List CallBytes) : Type 0 where
     -- whenever a lane i is told to wait, by the answer to the call `told`
     pub waits-end : (early later rest : List CallBytes) (told : CallBytes) (i : ℕ) → calls ≡ (early ++ told ∷ []) ++ (later ++ rest)
@@ -206,6 +212,8 @@ module _ (search : Search) (book : List ℕ) where
     pub in-order : (early later rest : List CallBytes) (first : CallBytes) → calls ≡ (early ++ first ∷ []) ++ (later ++ rest)
         → isReset (entryAfter early first) ≡ true → countPass isReset (entriesAfter (early ++ first ∷ []) later) ≡ 0
         → InOrder (early ++ first ∷ []) later
+    -- at each call of the list that hands out places
+    pub counts-told : (early rest : List CallBytes) (g : CallBytes) → calls ≡ early ++ g ∷ rest → handsOut (entryAfter early g) ≡ true → CountTold early g
 
 -- of the line's own search
 abbrev pub DemandThree : Type 0

@@ -30,7 +30,7 @@ pub data Steps (search : Search) (x : State) : Call → Result → Type 0 where
   refuses : {c : Call} (n : ℕ) → Steps search x c (refuse n x)
   opens : (lanes capacity : ℕ) → x .line .lanes ≡ 0 → 1 ≤ lanes → lanes ≤ mostLanes → leastCapacity ≤ capacity → capacity ≤ mostCapacity → capacity ≤ length (x .book)
       → Steps search x (given (Event.Open lanes capacity)) (openStep x lanes capacity)
-  wants : (i purpose : ℕ) → i < x .line .lanes → phaseAt (x .line) i ≡ Phase.Idle → somePass (on isGathered) (x .line .lane) ≡ false
+  wants : (i purpose : ℕ) → i < x .line .lanes → phaseAt (x .line) i ≡ Phase.Idle → somePass (on isGathered) (x .line .lane) ≡ false → purpose ≤ 2
       → Steps search x (given (Event.Want i purpose)) (wantStep x i (purposeOf purpose))
   receives : (i : ℕ) (p : Purpose) (v : Place) → i < x .line .lanes → phaseAt (x .line) i ≡ Phase.Woken p v
       → Steps search x (given (Event.Receive i)) (receiveStep x i (Phase.Woken p v))
@@ -87,6 +87,10 @@ inside-is : (z : ℤ) → isOutside z ≡ false → (n : ℕ) × (z ≡ pos n) �
 inside-is (pos n) e = (n, refl, ltb-false mostPointer n e)
 inside-is (negsuc n) e = clash e
 
+or-first : (a : Bool) → a || false ≡ false → a ≡ false
+or-first true e = e
+or-first false e = refl
+
 or-not : (a : Bool) → not a || false ≡ false → a ≡ true
 or-not true e = refl
 or-not false e = clash e
@@ -110,7 +114,7 @@ module _ (search : Search) (x : State) where
       (leb-true 1 lanes (and-left (leb 1 lanes) (leb lanes mostLanes) a)) (leb-true lanes mostLanes (and-right (leb 1 lanes) (leb lanes mostLanes) a))
       (leb-true leastCapacity capacity (and-left (leb leastCapacity capacity) (leb capacity mostCapacity) c)) (leb-true capacity mostCapacity (and-right (leb leastCapacity capacity) (leb capacity mostCapacity) c))
       (leb-true capacity (length (x .book)) (and-right (leb leastCapacity capacity && leb capacity mostCapacity) (leb capacity (length (x .book))) b))
-  accepted-case (Event.Want i purpose) f = wants i purpose (leb-false (x .line .lanes) i (f 8)) (idle-is (phaseAt (x .line) i) (allow (Event.Want i purpose) f)) (f 12)
+  accepted-case (Event.Want i purpose) f = wants i purpose (leb-false (x .line .lanes) i (f 8)) (idle-is (phaseAt (x .line) i) (allow (Event.Want i purpose) f)) (f 12) (ltb-false 2 purpose (or-first (ltb 2 purpose) (f 9)))
   accepted-case (Event.Receive i) f =
       let e = woken-is (phaseAt (x .line) i) (allow (Event.Receive i) f) in
       subst (λ (y : Phase). Steps search x (given (Event.Receive i)) (receiveStep x i y)) (sym e)

@@ -341,7 +341,7 @@ sized-facts l n F =
 pub keeps-facts : {x : State} {c : Call} {r : Result} → GoodState x → Steps nextLane x c r → Facts (r .after .line)
 keeps-facts G (refuses n) = G .facts
 keeps-facts G (opens lanes capacity z a b d e f) = fresh-facts lanes capacity b
-keeps-facts {x} G (wants i purpose h e g) =
+keeps-facts {x} G (wants i purpose h e g m) =
     at-test (λ (r : Result). Facts (r .after .line)) (othersDown (x .line) i) _ _
     (λ t. holds-facts (x .line) (G .facts) i h e g (purposeOf purpose) t) (λ t. waits-facts (x .line) (G .facts) i h e g (purposeOf purpose) t)
 keeps-facts {x} G (receives i p v h e) = receive-facts (x .line) (G .facts) i p v h e
@@ -415,7 +415,7 @@ opened-numbers lanes capacity b h lanes-fit least most held =
 pub keeps-numbers : {x : State} {c : Call} {r : Result} → GoodState x → Steps nextLane x c r → numbersOk (r .after .line) (length (r .after .book)) ≡ true
 keeps-numbers G (refuses n) = G .numbers
 keeps-numbers {x} G (opens lanes capacity z a b d e f) = opened-numbers lanes capacity (x .book) a b d e f
-keeps-numbers {x} G (wants i purpose h e g) =
+keeps-numbers {x} G (wants i purpose h e g m) =
     at-test (λ (r : Result). numbersOk (r .after .line) (length (r .after .book)) ≡ true) (othersDown (x .line) i) _ _ (λ t. G .numbers) (λ t. G .numbers)
 keeps-numbers G (receives i p v h e) = G .numbers
 keeps-numbers {x} G (take-writes i c v h e f) =

@@ -65,9 +65,16 @@ receivesBy i e = isAccepted 0x03 e && eqb (e .lane) i
 abbrev pub isRelease : Entry → Bool
 isRelease e = isAccepted 0x04 e || isAccepted 0x09 e
 
--- "A lane is told to wait by the answer waits to its want": the answer waits has no value, holds has one
+-- the answers waits and holds: waits has no value, holds has the pointer
+abbrev pub answersWaits : Entry → Bool
+answersWaits e = eqb (e .said .number) 0x02 && not (hasValues e)
+
+abbrev pub answersHolds : Entry → Bool
+answersHolds e = eqb (e .said .number) 0x02 && hasValues e
+
+-- "A lane is told to wait by the answer waits to its want"
 abbrev pub tellsToWait : ℕ → Entry → Bool
-tellsToWait i e = wantsBy i e && (eqb (e .said .number) 0x02 && not (hasValues e))
+tellsToWait i e = wantsBy i e && answersWaits e
 
 -- "which an accepted release does by answering wakes with its number": the values after start and count, of 09 all of them
 abbrev pub wokenBy : Entry → List ℕ
