@@ -1,4 +1,4 @@
--- A line of an answer in a lent buffer: the answer to printing it, and the bytes left.
+-- An answer's line in a lent buffer: `answerLine`, where the longest line has room. That no line is longer: answer_text/Lengths: line-short.
 use Prim.Native.Nat.{ℕ}
 use mathlib.Core.Bool.{cond}
 use mathlib.Core.List.{List}

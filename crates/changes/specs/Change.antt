@@ -1,4 +1,4 @@
--- A lane's call as a change of a few values: what it sees of a line, and the line with the change applied.
+-- A lane's call as a change: what it sees, and the line after it. Tied to `callEvent` by lane_calls/Steps: decided-step, to `sound` by changes/Within: within-of.
 use Prim.Native.Nat.{ℕ, _%_, _≤_}
 use mathlib.Core.Bool.{Bool, true, cond}
 use mathlib.Core.List.{List}

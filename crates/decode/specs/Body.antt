@@ -1,4 +1,4 @@
--- The body of a kind, from an index of a sheet on.
+-- The body of a kind, from an index of a sheet on. Tied to `readAt` by the contract of decode::read_event.
 use Prim.Native.Nat.{ℕ, _+_}
 use mathlib.Core.List.{List}
 use lib.ListN.{drop}

@@ -1,4 +1,4 @@
--- Fields of given lengths at an index of a sheet, and what the readers' answers say.
+-- Fields at an index of a sheet, and what their readers answer. Tied to `readAt` by decode/Bodies: body-read, body-cut, and the contract of decode::read_event.
 use Prim.Native.Nat.{ℕ, _+_}
 use mathlib.Core.Bool.{cond}
 use mathlib.Core.List.{List, [], _∷_}

@@ -1,4 +1,4 @@
--- The answers of the linked functions as plain numbers.
+-- The linked functions' answers as numbers, by `readAt` and a run's text. Not in document 01: the contract of embed::gudlemi_run and the functions beside it.
 use Prim.Native.Nat.{ℕ, _-_}
 use mathlib.Core.Bool.{true, cond}
 use mathlib.Core.Path.{_≡_}

@@ -1,4 +1,4 @@
--- The length of an event, and the buffer with an event at its start.
+-- The length of an event, and the buffer with an event at its start. Tied to `writingOf` and `writtenTo` by encode/Answers: refused-2, refused-3, written.
 use Prim.Native.Nat.{ℕ, _+_}
 use mathlib.Core.Bool.{cond}
 use mathlib.Core.List.{List, _∷_}

@@ -1,4 +1,4 @@
--- Fields stored from an index of a buffer on.
+-- Fields stored from an index of a buffer on. Tied to `writtenTo` by encode/Answers: written.
 use Prim.Native.Nat.{ℕ}
 use mathlib.Core.List.{List}
 use lib.Seq.{sets}

@@ -1,4 +1,4 @@
--- The outcome of a call whose bytes give no event: 1 on an unsound line, and else the number of what is wrong with the bytes.
+-- The outcome of a call whose bytes give no event: 1 on an unsound line, else 2 or 3. Tied to `step` by event_calls/Unsound: no-kind, refused-call.
 use Prim.Native.Nat.{ℕ}
 use mathlib.Core.Bool.{cond}
 use Rattle.line.specs.declared.Line.{Line}

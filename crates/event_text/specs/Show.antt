@@ -1,4 +1,4 @@
--- Sheets in words: a line an event, and the line that says what is wrong.
+-- Sheets in words, by the table of kinds: a line an event, or what is wrong. Not in document 01: the contract of event_text::show_event and the two beside it.
 use Prim.Native.Nat.{ℕ, _-_}
 use mathlib.Core.Bool.{cond}
 use mathlib.Core.List.{List, [], _∷_, _++_, map}

@@ -1,4 +1,4 @@
--- The calls 02 to 09 as changes, and the book that each leaves.
+-- The calls 02 to 09 as changes, and the book that each leaves. Tied to `callEvent` by lane_calls/Steps: decided-step.
 use Prim.Native.Nat.{ℕ}
 use mathlib.Core.List.{List}
 use mathlib.Core.Path.{_≡_}

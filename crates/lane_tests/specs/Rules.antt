@@ -1,4 +1,4 @@
--- The rules of a single lane by their names, and the counts over all lanes.
+-- The rules of a single lane by their names, and the counts over all lanes. Tied to `sound` by the contract of soundness::is_sound.
 use mathlib.Core.Bool.{Bool}
 use mathlib.Core.List.{List}
 use lib.Dec.{eqb}

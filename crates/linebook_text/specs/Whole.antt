@@ -1,4 +1,4 @@
--- What `linebook` prints of a sheet, in a lent buffer: `linebook` of the crate `printout`, where there is room for it.
+-- What `linebook` prints of a sheet, in a lent buffer. Tied to `linebook` of `printout`, where there is room, by linebook_text/Linebook: prints-linebook.
 use Prim.Native.Nat.{ℕ}
 use mathlib.Core.Bool.{Bool, true, cond}
 use mathlib.Core.Path.{_≡_}

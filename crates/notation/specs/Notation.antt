@@ -1,4 +1,4 @@
--- The notation of the papers: hexadecimal digits in pairs, free characters between them, and comments from # to the line's end.
+-- The notation of the papers: hexadecimal digits in pairs, free characters, comments from # on. Not defined by document 01: the contract of notation::parse.
 use Prim.Native.Nat.{ℕ, _+_, _*_, _-_}
 use mathlib.Core.Bool.{Bool, true, false, cond}
 use mathlib.Core.List.{List, [], _∷_, _++_}

@@ -1,4 +1,4 @@
--- What a function that stores a text in a lent buffer leaves and answers.
+-- What a function that stores a text in a lent buffer leaves and answers. Tied to `answerLine` by the contract of answer_text::print_answer.
 use Prim.Native.Nat.{ℕ, _+_}
 use mathlib.Core.Path.{_≡_}
 use mathlib.Core.List.{List}

@@ -1,4 +1,4 @@
--- The outcome once a lane has entered: all N start, or it waits for the others.
+-- The outcome once a lane has entered: all N start, or it waits for the others. Tied to `callEvent` by ordered_calls/Calls: enters.
 use Prim.Native.Nat.{ℕ, _+_}
 use mathlib.Core.Bool.{cond}
 use mathlib.Core.List.{List}

@@ -1,4 +1,4 @@
--- "a reader over the lent bytes that remembers how far it has got": what it reads next, and the reader after it.
+-- A reader over lent bytes: `readAt`, and how far it has got then. Tied to `run` by the contract of run::run, which reads by it.
 use Prim.Native.Nat.{ℕ}
 use mathlib.Core.List.{List}
 use denote.Ref.{now}

@@ -1,4 +1,4 @@
--- The calls 05, 06, 07 and 08 as changes, past the tests of the lane (4 and 8), by what they see of the line; that each is the step of document 01 is proved in proofs/Steps.
+-- The calls 05, 06, 07 and 08 as changes, past the tests of 4 and 8. Tied to `callEvent` by record_calls/Steps: write-step, read-step, put-step, look-step.
 use Prim.Native.Nat.{ℕ, _+_, max}
 use mathlib.Core.Bool.{Bool, true, cond, not}
 use mathlib.Core.List.{List}

@@ -1,4 +1,4 @@
--- "A refusal returns its number alone and alters neither the line nor any buffer": the outcome.
+-- "A refusal returns its number alone and alters neither the line nor any buffer": the outcome. Tied to `refuse` of a step by refuse/First: meets-refused.
 use Prim.Native.Nat.{ℕ}
 use Rattle.line.specs.declared.Line.{Line}
 use Rattle.steps.specs.declared.Answer.{Answer}

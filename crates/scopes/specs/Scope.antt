@@ -1,4 +1,4 @@
--- What an event calls, and the event of a call; that the two fit is proved in proofs/Scopes.
+-- What an event calls, and the event of a call. Tied to `Event` by scopes/Scopes: scope-event, by which an event is the event of what it calls.
 use Prim.Native.Nat.{ℕ}
 use Rattle.event.specs.declared.Event.{Event}
 use Rattle.scopes.specs.declared.LaneCall.{LaneCall}

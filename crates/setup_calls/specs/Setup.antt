@@ -1,4 +1,4 @@
--- What a seek decides from numbers: its base, and the place at its target.
+-- What a seek decides from numbers: its base, and the place at its target. Tied to `callEvent` by setup_calls/Calls: seek-15, seek-meets.
 use Prim.Native.Nat.{ℕ, zero, suc}
 use mathlib.Core.Bool.{cond}
 use lib.IntN.{ℤ}

@@ -1,4 +1,4 @@
--- Lists of calls on which demand 3 is tried: that it says something, and that a search from lane 0 breaks it.
+-- Lists of calls to try demand 3 on, by trials/Trials: long-not-yet, long-woken, mixed-places, mixed-lanes, and, for a search from lane 0, from-zero-fails.
 use Prim.Native.Nat.{ℕ, zero, suc, _+_}
 use mathlib.Core.List.{List, [], _∷_}
 use lib.ListN.{replicate}

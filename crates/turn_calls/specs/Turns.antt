@@ -1,4 +1,4 @@
--- The calls 02, 03, 04 and 09 as changes, past the tests of the lane (4 and 8), by what they see of the line; that each is the step of document 01 is proved in proofs/Steps.
+-- The calls 02, 03, 04 and 09 as changes, past the tests of 4 and 8. Tied to `callEvent` by turn_calls/Steps: want-step, receive-step, take-step, free-step.
 use Prim.Native.Nat.{ℕ, _+_}
 use mathlib.Core.Bool.{Bool, cond, not}
 use mathlib.Core.List.{List}
