@@ -3,7 +3,7 @@
  * A sheet is a row of bytes, event after event: one byte of kind, 01 to 0C, then the body of that kind. A book is the
  * lent bytes in which the lanes' records are written. Both are described in document 01. Each function is proved to
  * answer and to leave exactly what its definitions say: in crates/embed/specs/Embedded.antt, and of a run in
- * crates/run/specs/Runs.antt (printedBy, leftBy, textIn), from the state `fresh` of crates/steps/specs/State.antt.
+ * crates/run/specs/Runs.antt (printedBy, leftByRun, textIn), from the state `fresh` of crates/steps/specs/State.antt.
  *
  * Make the library with `rt staticlib embed`, which writes target/staticlib/libembed.a, and link it:
  *

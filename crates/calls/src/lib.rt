@@ -1,7 +1,6 @@
 // The twelve calls, a function for each: it makes the event and calls `event_calls::call_event`. None requires anything.
 // A call's tests and what it does stand in `turn_calls` (02, 03, 04, 09), `record_calls` (05 to 08), `ordered_calls` (0A) and `setup_calls` (01, 0B, 0C).
 ghost use mathlib.Core.Path.{_≡_};
-ghost use Rattle.view.specs.View.{place};
 ghost use Rattle.event.specs.declared.Event.{Event};
 ghost use Rattle.steps.specs.Meets.{Meets, stateOf};
 ghost use Rattle.steps.specs.Step.{callEvent};
@@ -55,10 +54,9 @@ pub fn read(line: Line, book: &mut [u8], lane: u8) -> Outcome
 }
 
 // 07: the holder of the whole book puts a record at a place.
-pub fn put(line: Line, book: &mut [u8], lane: u8, number: u32, content: u64) -> Outcome
-    ensures { λ r. ⌜ Meets (callEvent (stateOf line (now (book .entry))) (Event.Put lane (place number) content)) r (now (book .exit)) ⌝ }
+pub fn put(line: Line, book: &mut [u8], lane: u8, place: Place, content: u64) -> Outcome
+    ensures { λ r. ⌜ Meets (callEvent (stateOf line (now (book .entry))) (Event.Put lane place content)) r (now (book .exit)) ⌝ }
 {
-    let place = Place(number);
     call_event(
         line,
         book,
@@ -71,11 +69,10 @@ pub fn put(line: Line, book: &mut [u8], lane: u8, number: u32, content: u64) -> 
 }
 
 // 08: the holder of the whole book looks at a place.
-pub fn look(line: Line, book: &mut [u8], lane: u8, number: u32) -> Outcome
-    ensures { λ r. ⌜ Meets (callEvent (stateOf line (now (book .entry))) (Event.Look lane (place number))) r (now (book .exit)) ⌝ }
+pub fn look(line: Line, book: &mut [u8], lane: u8, place: Place) -> Outcome
+    ensures { λ r. ⌜ Meets (callEvent (stateOf line (now (book .entry))) (Event.Look lane place)) r (now (book .exit)) ⌝ }
 {
-    let at = Place(number);
-    call_event(line, book, Event::Look { lane, place: at })
+    call_event(line, book, Event::Look { lane, place })
 }
 
 // 09: the holder of the whole book releases.

@@ -27,8 +27,8 @@ fn call(line: Line, book: &mut [u8], event: Event) -> Outcome {
             lane,
             place,
             content,
-        } => calls::put(line, book, lane, place.0, content),
-        Event::Look { lane, place } => calls::look(line, book, lane, place.0),
+        } => calls::put(line, book, lane, place, content),
+        Event::Look { lane, place } => calls::look(line, book, lane, place),
         Event::Free { lane } => calls::free(line, book, lane),
         Event::Enter { lane, count } => calls::enter(line, book, lane, count),
         Event::View {

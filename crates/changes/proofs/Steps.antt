@@ -26,7 +26,7 @@ use Rattle.steps.specs.Meets.{stateOf}
 use Rattle.steps.specs.State.{Result}
 use Rattle.steps.specs.Step.{refuse}
 use Rattle.steps.proofs.Chains as chains
-use Rattle.changes.specs.Change.{applied, atLane, changed, entryOf, keptChange, refusedChange, seenOf, wakesIn}
+use Rattle.changes.specs.Change.{applied, laneTested, changed, entryOf, keptChange, refusedChange, seenOf, wakesIn}
 use Rattle.changes.specs.declared.Change.{Change}
 use Rattle.changes.specs.declared.Seen.{Seen}
 
@@ -62,7 +62,7 @@ entry-is i h = omega arith
 
 module _ (l : Line) (book : List ℕ) (left : Answer → List ℕ) (same : (k : ℕ) → left (Answer.Refused k) ≡ book) (lanes-fit : l .lanes ≤ mostLanes) (ok : sound l (length book) ≡ true) where
   pub lane-step : (i : ℕ) (c : ℕ → Change) (rest : Result) → (i < l .lanes → Gives l left i rest (c i))
-      → Gives l left (entryOf i) (chains.atLane (stateOf l book) i rest) (atLane (seenOf l (entryOf i)) i (c (entryOf i)))
+      → Gives l left (entryOf i) (chains.atLane (stateOf l book) i rest) (laneTested (seenOf l (entryOf i)) i (c (entryOf i)))
   lane-step i c rest accepted =
       rw ok
       (by-test (eqb (l .lanes) 0)
@@ -87,7 +87,7 @@ module _ (s : Seen) where
   pub regular-refused : (k : ℕ) (b : Bool) {c : Change} → (b ≡ false → Regular s c) → Regular s (cond b (refusedChange s k) c)
   regular-refused k b g = regular-by b (λ _. regular-kept (Answer.Refused k)) g
 
-  pub regular-lane : (i : ℕ) {c : Change} → Regular s c → Regular s (atLane s i c)
+  pub regular-lane : (i : ℕ) {c : Change} → Regular s c → Regular s (laneTested s i c)
   regular-lane i r = regular-refused 4 (eqb (s .lanes) 0) (λ _. regular-refused 8 (leb (s .lanes) i) (λ _. r))
 
 -- a lane that writes or reads what it took is not gathered

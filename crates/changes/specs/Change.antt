@@ -44,8 +44,8 @@ abbrev pub refusedChange : Seen → ℕ → Change
 refusedChange s k = keptChange s (Answer.Refused k)
 
 -- the tests of a call that names a lane: 4 and 8
-abbrev pub atLane : Seen → ℕ → Change → Change
-atLane s i c = cond (eqb (s .lanes) 0) (refusedChange s 4) (cond (leb (s .lanes) i) (refusedChange s 8) c)
+abbrev pub laneTested : Seen → ℕ → Change → Change
+laneTested s i c = cond (eqb (s .lanes) 0) (refusedChange s 4) (cond (leb (s .lanes) i) (refusedChange s 8) c)
 
 -- the lane that is woken is one that a line can have
 abbrev pub wakesIn : Wakes → Bool

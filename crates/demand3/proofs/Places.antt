@@ -34,7 +34,7 @@ use Rattle.steps.proofs.Ordered.{busy-by, entered-all, started-by}
 use Rattle.steps.proofs.Stored.{other-phase, placed, same-phase}
 use Rattle.trace.specs.Trace.{CallBytes, Entry, afterAll, callIn, entries, hasValues, isReset, value}
 use Rattle.demand3.specs.Claim.{OrderedEntry, Grant, Handed, countFor, enteredAfter, enteredNext, grants, grantsBy, handTo, handed, handsOut, placesFrom, shares}
-use Rattle.trace.proofs.Seen.{by-entry, entryOf}
+use Rattle.trace.proofs.Seen.{by-entry, shownEntry}
 use Rattle.demand3.proofs.Trace.{entryOn, then, then-good}
 
 -- ---- ranges, and the places of grants
@@ -199,7 +199,7 @@ module _ (x : State) (G : GoodState x) (ns : List OrderedEntry) (C : Gathers ns 
 
   -- lane j is the last to enter
   complete-moves : (j c : ℕ) → j < x .line .lanes → phaseAt (x .line) j ≡ Phase.Idle → allPass (on isIdleOrGathered) (x .line .lane) ≡ true → (d : Entry)
-      → Moves x ns (entryOf (Event.Enter j c) d (saidBy (ordered x (entered (x .line) j c) .answer))) (ordered x (entered (x .line) j c))
+      → Moves x ns (shownEntry (Event.Enter j c) d (saidBy (ordered x (entered (x .line) j c) .answer))) (ordered x (entered (x .line) j c))
   unfolding countFor
   complete-moves j c h q g d =
       let ms : List OrderedEntry = record { lane = j; count = c } ∷ ns in
@@ -215,11 +215,11 @@ module _ (x : State) (G : GoodState x) (ns : List OrderedEntry) (C : Gathers ns 
         told = λ z. sym sum;
       }
 
-  pub moves : (e : Event) (d : Entry) (r : Result) → Steps nextLane x (given e) r → isReset (entryOf e d (saidBy (r .answer))) ≡ false → Moves x ns (entryOf e d (saidBy (r .answer))) r
+  pub moves : (e : Event) (d : Entry) (r : Result) → Steps nextLane x (given e) r → isReset (shownEntry e d (saidBy (r .answer))) ≡ false → Moves x ns (shownEntry e d (saidBy (r .answer))) r
   moves e d r (refuses n) f = hands-out-nothing _ _ refl refl refl refl refl (λ k. refl)
   moves e d r (opens lanes capacity z a b c g h) f = clash f
   moves e d r (wants j p h q g m) f =
-      at-test (λ (t : Result). Moves x ns (entryOf (Event.Want j p) d (saidBy (t .answer))) t) (othersDown (x .line) j) _ _
+      at-test (λ (t : Result). Moves x ns (shownEntry (Event.Want j p) d (saidBy (t .answer))) t) (othersDown (x .line) j) _ _
       (λ t. hands-out-nothing _ _ refl refl refl refl refl (same-counts j Phase.Idle (Phase.Holding (purposeOf p) (x .line .pointer)) q refl refl))
       (λ t. hands-out-nothing _ _ refl refl refl refl refl (same-counts j Phase.Idle (Phase.Waiting (purposeOf p)) q refl refl))
   moves e d r (receives j p v h q) f = hands-out-nothing _ _ refl refl refl refl refl (same-counts j (Phase.Woken p v) (Phase.Holding p v) q refl refl)
@@ -238,7 +238,7 @@ module _ (x : State) (G : GoodState x) (ns : List OrderedEntry) (C : Gathers ns 
       hands-out-nothing _ _ refl refl (ap (λ (k : Place). k .0) (wake-pointer t (nextOf nextLane t j))) (wake-lanes t (nextOf nextLane t j)) refl
       (λ k. wake-count t (nextOf nextLane t j) k ∙ same-counts j (Phase.Holding Purpose.WholeBook v) Phase.Idle q refl refl k)
   moves e d r (enters j c h q g o) f =
-      at-test (λ (t : Result). Moves x ns (entryOf (Event.Enter j c) d (saidBy (t .answer))) t) (allEntered (x .line) (entered (x .line) j c)) _ _
+      at-test (λ (t : Result). Moves x ns (shownEntry (Event.Enter j c) d (saidBy (t .answer))) t) (allEntered (x .line) (entered (x .line) j c)) _ _
       (λ t. complete-moves j c h q g d)
       (λ t. record { pointer = omega arith; in-order = nothing-handed; gathers = record { each = enter-counts j c h }; lanes = refl; told = λ z. clash (sym z) })
   moves e d r (views displacement extent used blocks z o g) f = clash f
@@ -289,7 +289,7 @@ reset-gathers : (x : State) → GoodState x → (ns : List OrderedEntry) → Gat
 reset-gathers x G ns C g =
     by-entry x g (λ (e : Entry) (r : Result). isReset e ≡ true → Gathers (enteredNext ns e) (r .after .line)) (λ d n f. clash (sym f)) resets
   where
-    resets : (e : Event) (d : Entry) (r : Result) → Steps nextLane x (given e) r → isReset (entryOf e d (saidBy (r .answer))) ≡ true → Gathers (enteredNext ns (entryOf e d (saidBy (r .answer)))) (r .after .line)
+    resets : (e : Event) (d : Entry) (r : Result) → Steps nextLane x (given e) r → isReset (shownEntry e d (saidBy (r .answer))) ≡ true → Gathers (enteredNext ns (shownEntry e d (saidBy (r .answer)))) (r .after .line)
     resets e d r (refuses n) f = clash (sym f)
     resets e d r (opens lanes capacity z a b c i h) f =
         record { each = λ k. C .each k ∙ ap countIn (G .facts .base .past k (omega arith)) ∙ sym (ap countIn (fresh-idle lanes capacity k)) }

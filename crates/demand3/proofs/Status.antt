@@ -32,7 +32,7 @@ use Rattle.steps.proofs.Release.{Chosen, Leaving, chosen, woken-now}
 use Rattle.steps.proofs.Stored.{other-phase, placed, same-phase}
 use Rattle.trace.specs.Trace.{Entry, CallBytes, afterAll, entries, wakes, wokenBy}
 use Rattle.demand3.specs.Claim.{Status, statusHasTurn, holding, statusWaits, off, purposeFor, status, statusNext, waiting, woken}
-use Rattle.trace.proofs.Seen.{by-entry, entryOf}
+use Rattle.trace.proofs.Seen.{by-entry, shownEntry}
 use Rattle.demand3.proofs.Trace.{entryOn, then, then-good}
 
 -- the number of a purpose, by which the claim speaks
@@ -161,12 +161,12 @@ module _ (x : State) (G : GoodState x) (i : ℕ) where
         | no z ↦ rw (ne-eqb j i z, other-phase (x .line) j i (Phase.Holding p v) (λ u. z (sym u)))
       ]
 
-  pub stand-event : (e : Event) (d : Entry) (r : Result) → Steps nextLane x (given e) r → Stood now i (entryOf e d (saidBy (r .answer))) r
+  pub stand-event : (e : Event) (d : Entry) (r : Result) → Steps nextLane x (given e) r → Stood now i (shownEntry e d (saidBy (r .answer))) r
   stand-event e d r (refuses n) = record { is = refl }
   stand-event e d r (opens lanes capacity z a b c f g) =
       record { is = ap statusOf (G .facts .base .past i (omega arith)) ∙ sym (ap statusOf (fresh-idle lanes capacity i)) }
   stand-event e d r (wants j p h q g m) =
-      at-test (λ (t : Result). Stood now i (entryOf (Event.Want j p) d (saidBy (t .answer))) t) (othersDown (x .line) j) _ _
+      at-test (λ (t : Result). Stood now i (shownEntry (Event.Want j p) d (saidBy (t .answer))) t) (othersDown (x .line) j) _ _
       (λ t. record { is = own-stand j (Phase.Holding (purposeOf p) (x .line .pointer)) (holding p) h (ap holding (number-kept p m)) })
       (λ t. record { is = own-stand j (Phase.Waiting (purposeOf p)) (waiting p) h (ap waiting (number-kept p m)) })
   stand-event e d r (receives j p v h q) = record { is = receive-stand j p v h q }
@@ -184,7 +184,7 @@ module _ (x : State) (G : GoodState x) (i : ℕ) where
   stand-event e d r (frees j v h q) =
       leaves-stand _ _ j (Phase.Holding Purpose.WholeBook v) Phase.Idle (x .line .pointer) refl refl refl refl (free-leaving (x .line) (G .facts) j v h q)
   stand-event e d r (enters j c h q g f) =
-      at-test (λ (t : Result). Stood now i (entryOf (Event.Enter j c) d (saidBy (t .answer))) t) (allEntered (x .line) (entered (x .line) j c)) _ _
+      at-test (λ (t : Result). Stood now i (shownEntry (Event.Enter j c) d (saidBy (t .answer))) t) (allEntered (x .line) (entered (x .line) j c)) _ _
       (λ t. record {
         is = ready-off (phaseAt (x .line) i) (all-getD (on isIdleOrGathered) (x .line .lane) i idleLane g refl)
             ∙ sym (down-off ((getD (started (x .line .pointer .0) (entered (x .line) j c)) i idleLane) .phase) (started-by (λ (y : Phase). isFlagged y ≡ false) refl (λ n v. refl) (x .line .pointer .0) (entered (x .line) j c) (entered-all (x .line) j c g) i));

@@ -25,7 +25,7 @@ use Rattle.trace.specs.Trace.{Entry, CallBytes, afterAll, answersWaits, entries
 use Rattle.demand3.specs.Claim.{CountTold, DemandThree, InOrder, NextAccepted, OneTurn, OnlyTurn, Status, WaitEnds, entriesAfter, enteredAfter, entriesOf, entryAfter, grants, handsOut, statusHasTurn, statusWaits, off, status, statusNext, waiting}
 use Rattle.demand3.proofs.Goes.{OnlyPhase, goes, only-turn}
 use Rattle.demand3.proofs.Places.{all-placed, count-told, gathers-all, start-gathers, total, wake-lanes}
-use Rattle.trace.proofs.Seen.{by-entry, entryOf}
+use Rattle.trace.proofs.Seen.{by-entry, shownEntry}
 use Rattle.demand3.proofs.Status.{stand-call, statusOf, stands, turn-is, waits-is}
 use Rattle.demand3.proofs.Trace.{entryOn, fair, sent, single, then, then-good}
 
@@ -49,7 +49,7 @@ lanes-call : (x : State) (g : CallBytes) → cond (isAccepted 0x01 (entryOn x g)
 lanes-call x g =
     by-entry x g (λ (e : Entry) (r : Result). cond (isAccepted 0x01 e) (value 0 e) (x .line .lanes) ≡ r .after .line .lanes) (λ d n. refl) lanes-event
   where
-    lanes-event : (e : Event) (d : Entry) (r : Result) → Steps nextLane x (given e) r → cond (isAccepted 0x01 (entryOf e d (saidBy (r .answer)))) (value 0 (entryOf e d (saidBy (r .answer)))) (x .line .lanes) ≡ r .after .line .lanes
+    lanes-event : (e : Event) (d : Entry) (r : Result) → Steps nextLane x (given e) r → cond (isAccepted 0x01 (shownEntry e d (saidBy (r .answer)))) (value 0 (shownEntry e d (saidBy (r .answer)))) (x .line .lanes) ≡ r .after .line .lanes
     lanes-event e d r (refuses n) = refl
     lanes-event e d r (opens lanes capacity z a b c i h) = refl
     lanes-event e d r (wants j p h q i m) = by-test (othersDown (x .line) j) (λ t. rw t) (λ t. rw t)

@@ -34,7 +34,7 @@ use Rattle.steps.proofs.Ordered.{busy-by, entered-all, started-by}
 use Rattle.steps.proofs.Release.{Chosen, Leaving, alone, chosen, woken-now}
 use Rattle.steps.proofs.Stored.{kinds-count, other-phase, placed, ready-count, same-phase, short}
 use Rattle.trace.specs.Trace.{Entry, isRelease, wakes, wantsBy, wokenBy}
-use Rattle.trace.proofs.Seen.{entryOf}
+use Rattle.trace.proofs.Seen.{shownEntry}
 
 -- ---- phases
 pub turn-up : (y : Phase) → hasTurn y ≡ true → isFlagged y ≡ true
@@ -158,11 +158,11 @@ module _ (x : State) (G : GoodState x) (i h : ℕ) (wi : isWaiting (phaseAt (x .
   none-idle : allPass (on isIdle) (x .line .lane) ≡ true → ⊥
   none-idle e = omega (arith, some-up, kinds-count (x .line .lane), all-count (on isIdle) (x .line .lane) e)
 
-  pub turn : (e : Event) (d : Entry) (r : Result) → Steps nextLane x (given e) r → Turn x i h (entryOf e d (saidBy (r .answer))) r
+  pub turn : (e : Event) (d : Entry) (r : Result) → Steps nextLane x (given e) r → Turn x i h (shownEntry e d (saidBy (r .answer))) r
   turn e d r (refuses n) = no-release refl (λ j. refl) refl wi th
   turn e d r (opens lanes capacity z a b c f g) = absurd (omega (arith, inside))
   turn e d r (wants j p hj q g m) =
-      at-test (λ (t : Result). Turn x i h (entryOf (Event.Want j p) d (saidBy (t .answer))) t) (othersDown (x .line) j) _ _
+      at-test (λ (t : Result). Turn x i h (shownEntry (Event.Want j p) d (saidBy (t .answer))) t) (othersDown (x .line) j) _ _
       (λ t. absurd (omega (arith, some-up, others-none (x .line) (G .facts) j hj q t)))
       (λ t. let k = kept j Phase.Idle (Phase.Waiting (purposeOf p)) q refl refl in no-release refl (λ m. refl) refl (k .0) (k .1))
   turn e d r (receives j p v hj q) =
@@ -224,11 +224,11 @@ module _ (x : State) (G : GoodState x) (i : ℕ) (wi : isWaiting (phaseAt (x .li
   wanted j y =
       elim (ℕ-discrete j i) [ yes z ↦ inl (eq-eqb j i z) | no z ↦ inr (rw (other-phase (x .line) j i y (λ u. z (sym u))) wi) ]
 
-  pub rests : (e : Event) (d : Entry) (r : Result) → Steps nextLane x (given e) r → Rests i (entryOf e d (saidBy (r .answer))) r
+  pub rests : (e : Event) (d : Entry) (r : Result) → Steps nextLane x (given e) r → Rests i (shownEntry e d (saidBy (r .answer))) r
   rests e d r (refuses n) = record { unwoken = refl; unwaiting = inr wi }
   rests e d r (opens lanes capacity z a b c f g) = record { unwoken = refl; unwaiting = inr (rw (fresh-idle lanes capacity i)) }
   rests e d r (wants j p hj q g m) =
-      at-test (λ (t : Result). Rests i (entryOf (Event.Want j p) d (saidBy (t .answer))) t) (othersDown (x .line) j) _ _
+      at-test (λ (t : Result). Rests i (shownEntry (Event.Want j p) d (saidBy (t .answer))) t) (othersDown (x .line) j) _ _
       (λ t. record { unwoken = refl; unwaiting = wanted j (Phase.Holding (purposeOf p) (x .line .pointer)) })
       (λ t. record { unwoken = refl; unwaiting = wanted j (Phase.Waiting (purposeOf p)) })
   rests e d r (receives j p v hj q) = record { unwoken = refl; unwaiting = inr (stays j (Phase.Holding p v) refl) }
@@ -247,7 +247,7 @@ module _ (x : State) (G : GoodState x) (i : ℕ) (wi : isWaiting (phaseAt (x .li
   rests e d r (frees j v hj q) =
       leaves-rests _ _ j (Phase.Holding Purpose.WholeBook v) Phase.Idle (x .line .pointer) refl refl refl (free-leaving (x .line) (G .facts) j v hj q)
   rests e d r (enters j c hj q g f) =
-      at-test (λ (t : Result). Rests i (entryOf (Event.Enter j c) d (saidBy (t .answer))) t) (allEntered (x .line) (entered (x .line) j c)) _ _
+      at-test (λ (t : Result). Rests i (shownEntry (Event.Enter j c) d (saidBy (t .answer))) t) (allEntered (x .line) (entered (x .line) j c)) _ _
       (λ t. record { unwoken = refl; unwaiting = inr (started-by (λ (y : Phase). isWaiting y ≡ false) refl (λ n v. refl) (x .line .pointer .0) (entered (x .line) j c) (entered-all (x .line) j c g) i) })
       (λ t. record { unwoken = refl; unwaiting = inr (stays j (Phase.Gathered c) refl) })
   rests e d r (views displacement extent used blocks z o g) = record { unwoken = refl; unwaiting = inr wi }

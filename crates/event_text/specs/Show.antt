@@ -62,11 +62,11 @@ abbrev pub eventLine : ℕ → Event → List ℕ
 eventLine number e = (decimal number ++ ascii " ") ++ words (eventWords e)
 
 -- the line at bytes that are no event: refusal 2 or 3
-abbrev pub reason : ℕ → List ℕ
-reason k = cond (eqb k 2) (ascii "kind not listed") (ascii "body cut short")
+abbrev pub whyNoEvent : ℕ → List ℕ
+whyNoEvent k = cond (eqb k 2) (ascii "kind not listed") (ascii "body cut short")
 
 abbrev pub refusalLine : ℕ → ℕ → ℕ → List ℕ
-refusalLine number at k = words (decimal number ∷ ascii "at byte" ∷ (decimal at ++ ascii ":") ∷ reason k ∷ [])
+refusalLine number at k = words (decimal number ∷ ascii "at byte" ∷ (decimal at ++ ascii ":") ∷ whyNoEvent k ∷ [])
 
 -- the line of a parse that failed; one that did not has none
 abbrev pub spotLine : Spot → List ℕ → List ℕ

@@ -17,7 +17,7 @@ ghost use Rattle.event.specs.Event.{fieldsOf};
 ghost use Rattle.printout.specs.Text.{ascii};
 ghost use Rattle.printout.specs.Print.{decimal, hexIn, words};
 ghost use Rattle.number_text.specs.Stored.{Stored};
-ghost use Rattle.event_text.specs.Show.{StoredTwo, blockText, blockWords, eventLine, eventWords, mostEventLine, mostWords, parseLine, reason, refusalLine, signedText, spotLine};
+ghost use Rattle.event_text.specs.Show.{StoredTwo, blockText, blockWords, eventLine, eventWords, mostEventLine, mostWords, parseLine, whyNoEvent, refusalLine, signedText, spotLine};
 
 // A word and the byte after it. All functions here return the index after what they stored.
 fn word(out: &mut [u8], at: usize, text: &[u8], after: u8) -> usize
@@ -247,7 +247,7 @@ pub fn show_event(out: &mut [u8], count: u64, event: Event) -> usize
 // Why bytes are no event: refusal 2 or 3.
 fn put_reason(out: &mut [u8], at: usize, refusal: u8) -> usize
     requires { ⌜ at + 16 ≤ length (now out) ⌝ }
-    ensures { λ r. ⌜ Stored (words (reason refusal ∷ [])) (now (out .entry)) at (now (out .exit)) r × (r ≤ length (now (out .entry))) ⌝ }
+    ensures { λ r. ⌜ Stored (words (whyNoEvent refusal ∷ [])) (now (out .entry)) at (now (out .exit)) r × (r ≤ length (now (out .entry))) ⌝ }
 {
     if refusal == 2 {
         return word(out, at, b"kind not listed", LINE_END);

@@ -19,16 +19,16 @@ use Rattle.record_calls.proofs.Steps.{look-step, put-step, read-step, write-ste
 use Rattle.record_calls.proofs.Regular.{look-regular, put-regular, read-regular, write-regular}
 use Rattle.scopes.specs.declared.LaneCall.{LaneCall}
 use Rattle.scopes.specs.Scope.{laneEvent}
-use Rattle.lane_calls.specs.Decided.{bookDecided, decided, decidedAt}
+use Rattle.lane_calls.specs.Decided.{bookDecided, decidedChange, decidedAt}
 
 module _ (l : Line) (book : List ℕ) (lanes-fit : l .lanes ≤ mostLanes) (ok : sound l (length book) ≡ true) where
   -- the step of a call of lane i
   abbrev pub Decides : LaneCall → ℕ → Type 0
   Decides call i =
-      Gives l (bookDecided call book) (entryOf i) (callEvent (stateOf l book) (laneEvent i call)) (decided (seenOf l (entryOf i)) i (l .view) (l .flag) book call)
+      Gives l (bookDecided call book) (entryOf i) (callEvent (stateOf l book) (laneEvent i call)) (decidedChange (seenOf l (entryOf i)) i (l .view) (l .flag) book call)
 
   pub decided-step : (call : LaneCall) (i : ℕ) → Decides call i
-  unfolding decided decidedAt bookDecided
+  unfolding decidedChange decidedAt bookDecided
   decided-step (LaneCall.Want purpose) i = record { is = want-step l book lanes-fit ok i purpose }
   decided-step LaneCall.Receive i = record { is = receive-step l book lanes-fit ok i }
   decided-step (LaneCall.Take c) i = record { is = take-step l book lanes-fit ok i c }
@@ -49,6 +49,6 @@ regular-at s lanes-fit i v flags book (LaneCall.Put k content) = put-regular s v
 regular-at s lanes-fit i v flags book (LaneCall.Look k) = look-regular s v book k
 regular-at s lanes-fit i v flags book LaneCall.Free = free-regular s lanes-fit i flags
 
-pub decided-regular : (s : Seen) → s .lanes ≤ mostLanes → (i : ℕ) (v : View) (flags book : List ℕ) (call : LaneCall) → Regular s (decided s i v flags book call)
-unfolding decided
+pub decided-regular : (s : Seen) → s .lanes ≤ mostLanes → (i : ℕ) (v : View) (flags book : List ℕ) (call : LaneCall) → Regular s (decidedChange s i v flags book call)
+unfolding decidedChange
 decided-regular s lanes-fit i v flags book call = regular-lane s i (regular-at s lanes-fit i v flags book call)

@@ -4,7 +4,7 @@ use mathlib.Core.List.{List}
 use mathlib.Core.Path.{_≡_}
 use Rattle.view.specs.declared.View.{View}
 use Rattle.steps.specs.declared.Answer.{Answer}
-use Rattle.changes.specs.Change.{atLane}
+use Rattle.changes.specs.Change.{laneTested}
 use Rattle.changes.specs.declared.Change.{Change}
 use Rattle.changes.specs.declared.Seen.{Seen}
 use Rattle.turn_calls.specs.Turns.{freeChange, receiveChange, takeChange, wantChange}
@@ -23,8 +23,8 @@ decidedAt s i v flags book (LaneCall.Look k) = lookChange s v book k
 decidedAt s i v flags book LaneCall.Free = freeChange s flags i
 
 -- the change of a call of lane i: 4 and 8 come first, whatever the kind
-unfoldable pub decided : Seen → ℕ → View → List ℕ → List ℕ → LaneCall → Change
-decided s i v flags book call = atLane s i (decidedAt s i v flags book call)
+unfoldable pub decidedChange : Seen → ℕ → View → List ℕ → List ℕ → LaneCall → Change
+decidedChange s i v flags book call = laneTested s i (decidedAt s i v flags book call)
 
 -- the book that a call leaves with this answer: a record that 05 or 07 put stands at its position
 unfoldable pub bookDecided : LaneCall → List ℕ → Answer → List ℕ

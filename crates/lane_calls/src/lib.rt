@@ -1,7 +1,7 @@
 // The calls 02 to 09, which change one lane, the line's numbers and the lane that is woken, each as a change; used by the calls on a line and by the run of a sheet.
 ghost use lib.ListN.{length};
 ghost use Rattle.changes.specs.Change.{Within};
-ghost use Rattle.lane_calls.specs.Decided.{Decision, decided, decidedAt};
+ghost use Rattle.lane_calls.specs.Decided.{Decision, decidedChange, decidedAt};
 use changes::Change;
 use changes::Seen;
 use changes::refuse;
@@ -53,7 +53,7 @@ pub fn decide(
     call: LaneCall,
 ) -> Change
     requires { ⌜ Within seen view (length (now book)) ⌝ }
-    ensures { λ r. ⌜ Decision (decided seen lane view (now (flags .entry)) (now (book .entry)) call) call (now (book .entry)) r (now (book .exit)) ⌝ }
+    ensures { λ r. ⌜ Decision (decidedChange seen lane view (now (flags .entry)) (now (book .entry)) call) call (now (book .entry)) r (now (book .exit)) ⌝ }
 {
     if seen.lanes == 0 {
         return refuse(seen, 4);

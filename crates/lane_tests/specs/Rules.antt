@@ -17,13 +17,13 @@ ruleOf Rule.IdleOrGathered l x = isIdleOrGathered x
 ruleOf Rule.Value l x = valueOk (l .pointer) x
 ruleOf Rule.Region l x = regionOk l x
 
-abbrev pub isFlagged : Phase → Bool
-isFlagged x = eqb 1 (flagFor x)
+abbrev pub flagIsOne : Phase → Bool
+flagIsOne x = eqb 1 (flagFor x)
 
 abbrev pub tallyOf : List Lane → Tally
 tallyOf ls =
     record {
-      flagged = countPass (on isFlagged) ls;
+      flagged = countPass (on flagIsOne) ls;
       turns = countPass (on hasTurn) ls;
       gathered = countPass (on isGathered) ls;
       total = gatheredTotal ls;

@@ -28,7 +28,7 @@ pub struct Lane {
     pub phase: Phase,
 }
 
-// The line: N in `lane_tests`, capacity and size in bytes, and an entry of `lane` and of `flag` for each lane that there could be.
+// The line: N in `lanes`, capacity and size in bytes, and an entry of `lane` and of `flag` for each lane that there could be.
 pub struct Line {
     pub lanes: u8,
     pub capacity: u32,

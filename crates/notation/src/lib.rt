@@ -6,7 +6,7 @@ ghost use Rattle.number_text.specs.Stored.{Stored};
 ghost use Rattle.notation.specs.Notation.{notationBytes, digitOf, faultAt, faultOf, isFree, leftOf, madeOf, mostNotation, parsedOf, passedOf, spotOf, spotPast, characterStep, storedOf, storedTo};
 
 // The longest text.
-pub const MOST_TEXT: usize = 1048576;
+pub const MOST_NOTATION: usize = 1048576;
 
 // Stands for no digit.
 const NONE: u8 = 16;
@@ -46,7 +46,7 @@ pub struct Spot {
 }
 
 // What a parse answers: the number of bytes stored, where a digit or a second digit is missing,
-// a text of more than MOST_TEXT bytes, or a buffer too short for the bytes.
+// a text of more than MOST_NOTATION bytes, or a buffer too short for the bytes.
 pub enum Parsed {
     Length(usize),
     NoDigit(Spot),
@@ -269,7 +269,7 @@ fn store(text: &[u8], out: &mut [u8]) -> Parsed
 pub fn parse(text: &[u8], out: &mut [u8]) -> Parsed
     ensures { λ r. ⌜ (r ≡ parsedOf (now (text .entry)) (length (now (out .entry)))) × (now (out .exit) ≡ leftOf (now (text .entry)) (now (out .entry))) ⌝ }
 {
-    if MOST_TEXT < text.len() {
+    if MOST_NOTATION < text.len() {
         return Parsed::TooLong;
     }
     let fault = find_fault(text);

@@ -4,13 +4,9 @@ use mathlib.Core.Path.{_≡_, refl, sym}
 use mathlib.Core.Bool.{true, false}
 use mathlib.Core.List.{List}
 use native.Mathlib.Omega.{arith}
-use lib.Dec.{leb}
 use borrow.Author.Tests.{lt-leb}
 use lib.ListN.{length}
-use Rattle.lists.proofs.Tests.{by-test, clash}
-use Rattle.view.specs.View.{recordEnd}
-use Rattle.view.specs.declared.Place.{Place}
-use Rattle.line.specs.Line.{phaseAt, placeIn}
+use Rattle.lists.proofs.Tests.{clash}
 use Rattle.line.specs.Sound.{sound}
 use Rattle.waitlist.specs.NextLane.{nextLane}
 use Rattle.event.specs.Kinds.{isListed}
@@ -19,33 +15,15 @@ use Rattle.event.specs.ReadWrite.{readAt}
 use Rattle.event.specs.declared.Cursor.{Cursor}
 use Rattle.event.specs.declared.Event.{Event}
 use Rattle.event.specs.declared.Reading.{Reading}
-use Rattle.steps.specs.Effects.{Search, allEntered, effect, entered, othersDown, recordAt}
+use Rattle.steps.specs.Answer.{saidBy}
+use Rattle.steps.specs.Effects.{effect}
 use Rattle.steps.specs.State.{Result, State}
 use Rattle.steps.specs.Step.{callEvent}
 use Rattle.steps.specs.declared.Answer.{Answer}
-use Rattle.steps.proofs.CheckingOrder.{Applies, Decided, accepted, decided, refused}
+use Rattle.steps.proofs.CheckingOrder.{Applies, Decided, accepted, decided, none-accepted, none-accepts, refused}
 use Rattle.printout.specs.Run.{answered, done, endsRun, runOn}
 
 -- ---- an event that was read does not end the run of a sound line: only 1, 2 and 3 would
-module _ (search : Search) (x : State) where
-  record-answers : (k : Place) → endsRun (recordAt x k) ≡ false
-  record-answers k = by-test (leb (recordEnd (x .line .view) k) (x .line .size)) (λ e. rw e) (λ e. rw e)
-
-  answers : (e : Event) → isListed (kindOf e) ≡ true → endsRun (effect search x e .answer) ≡ false
-  answers (Event.Open lanes capacity) t = refl
-  answers (Event.Want i purpose) t = by-test (othersDown (x .line) i) (λ e. rw e) (λ e. rw e)
-  answers (Event.Receive i) t = refl
-  answers (Event.Take i c) t = refl
-  answers (Event.Write i content) t = refl
-  answers (Event.Read i) t = record-answers (placeIn (phaseAt (x .line) i))
-  answers (Event.Put i k content) t = refl
-  answers (Event.Look i k) t = record-answers k
-  answers (Event.Free i) t = refl
-  answers (Event.Enter i c) t = by-test (allEntered (x .line) (entered (x .line) i c)) (λ e. rw e) (λ e. rw e)
-  answers (Event.View displacement extent used blocks) t = refl
-  answers (Event.Seek whence offset) t = refl
-  answers Event.Unlisted t = clash (sym t)
-
 pub goes-on : (x : State) (e : Event) → sound (x .line) (length (x .book)) ≡ true → isListed (kindOf e) ≡ true → endsRun (callEvent x e .answer) ≡ false
 goes-on x e ok t = go (decided nextLane x (given e))
   where
@@ -59,7 +37,7 @@ goes-on x e ok t = go (decided nextLane x (given e))
 
     go : {r : Result} → Decided nextLane x (given e) r → endsRun (r .answer) ≡ false
     go (refused k w) = later k (w .applies)
-    go (accepted f) = answers nextLane x e t
+    go (accepted f) = let a : saidBy (effect nextLane x e .answer) .accepted ≡ true = rw (none-accepted nextLane x (given e) f) at (none-accepts nextLane x (given e) f) in rw a
 
 -- ---- the run from a cursor on
 module _ (x : State) (sheet : List ℕ) (at : ℕ) where

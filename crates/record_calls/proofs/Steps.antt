@@ -20,7 +20,7 @@ use Rattle.steps.specs.Meets.{stateOf}
 use Rattle.steps.specs.State.{Result, State}
 use Rattle.steps.specs.Step.{callEvent, refuse}
 use Rattle.steps.proofs.Chains.{look-chain, put-chain, read-chain, write-chain}
-use Rattle.changes.specs.Change.{atLane, changed, entryOf, refusedChange, seenOf}
+use Rattle.changes.specs.Change.{laneTested, changed, entryOf, refusedChange, seenOf}
 use Rattle.changes.specs.declared.Seen.{Seen}
 use Rattle.changes.proofs.Steps.{Gives, guarded, lane-step, refused-step, unchanged}
 use Rattle.record_calls.specs.Records.{bookAfter, lookChange, putChange, readChange, readBy, recordFound, recordPut, writeChange, writtenBy}
@@ -56,12 +56,12 @@ module _ (l : Line) (book : List ℕ) (lanes-fit : l .lanes ≤ mostLanes) (ok :
     write-by (Phase.BusyReading n next) = refused-13
     write-by (Phase.Gathered n) = refused-13
 
-    pub write-step : callEvent (stateOf l book) (Event.Write i content) ≡ changed l (entryOf i) (atLane seen i (writeChange seen (l .view))) (left (atLane seen i (writeChange seen (l .view)) .answer))
+    pub write-step : callEvent (stateOf l book) (Event.Write i content) ≡ changed l (entryOf i) (laneTested seen i (writeChange seen (l .view))) (left (laneTested seen i (writeChange seen (l .view)) .answer))
     write-step =
         write-chain nextLane (stateOf l book) i content
         ∙ lane-step l book left (λ k. refl) lanes-fit ok i (λ (j : ℕ). writeChange (seenOf l j) (l .view)) _ (λ h. write-by (phaseAt l i)) .is
 
-    pub put-step : (k : Place) → callEvent (stateOf l book) (Event.Put i k content) ≡ changed l (entryOf i) (atLane seen i (putChange seen (l .view) k)) (left (atLane seen i (putChange seen (l .view) k) .answer))
+    pub put-step : (k : Place) → callEvent (stateOf l book) (Event.Put i k content) ≡ changed l (entryOf i) (laneTested seen i (putChange seen (l .view) k)) (left (laneTested seen i (putChange seen (l .view) k) .answer))
     put-step k =
         put-chain nextLane (stateOf l book) i k content
         ∙ lane-step l book left (λ k. refl) lanes-fit ok i (λ (j : ℕ). putChange (seenOf l j) (l .view) k) _
@@ -83,12 +83,12 @@ module _ (l : Line) (book : List ℕ) (lanes-fit : l .lanes ≤ mostLanes) (ok :
   read-by (Phase.BusyReading n next) = record { is = rw (set-getD (l .flag) i 0) }
   read-by (Phase.Gathered n) = none-13
 
-  pub read-step : callEvent (stateOf l book) (Event.Read i) ≡ changed l (entryOf i) (atLane seen i (readChange seen (l .view) book)) book
+  pub read-step : callEvent (stateOf l book) (Event.Read i) ≡ changed l (entryOf i) (laneTested seen i (readChange seen (l .view) book)) book
   read-step =
       read-chain nextLane (stateOf l book) i
       ∙ lane-step l book (unchanged book) (λ k. refl) lanes-fit ok i (λ (j : ℕ). readChange (seenOf l j) (l .view) book) _ (λ h. read-by (phaseAt l i)) .is
 
-  pub look-step : (k : Place) → callEvent (stateOf l book) (Event.Look i k) ≡ changed l (entryOf i) (atLane seen i (lookChange seen (l .view) book k)) book
+  pub look-step : (k : Place) → callEvent (stateOf l book) (Event.Look i k) ≡ changed l (entryOf i) (laneTested seen i (lookChange seen (l .view) book k)) book
   look-step k =
       look-chain nextLane (stateOf l book) i k
       ∙ lane-step l book (unchanged book) (λ k. refl) lanes-fit ok i (λ (j : ℕ). lookChange (seenOf l j) (l .view) book k) _

@@ -63,7 +63,7 @@ fn record_at(view: View, size: u32, book: &[u8], place: Place) -> Answer
     requires { ⌜ size ≤ length (now book) ⌝ }
     ensures { λ r. ⌜ r ≡ recordIn view size (now (book .entry)) place ⌝ }
 {
-    let position = view.position_at(view.shown(), place.0 as u64);
+    let position = view.position(place);
     let at = position.0;
     if (size as u64) < at + 8 {
         return Answer::None;

@@ -27,7 +27,7 @@ use Rattle.scopes.specs.declared.LaneCall.{LaneCall}
 use Rattle.scopes.specs.declared.Scope.{Scope}
 use Rattle.scopes.specs.Scope.{scopeOf}
 use Rattle.scopes.proofs.Scopes.{found-event}
-use Rattle.lane_calls.specs.Decided.{Decision, decided}
+use Rattle.lane_calls.specs.Decided.{Decision, decidedChange}
 use Rattle.lane_calls.proofs.Steps.{decided-regular, decided-step}
 
 -- an outcome that meets a step has all of it
@@ -52,12 +52,12 @@ pub record Called (l : Line) (book : List ℕ) (e : Event) (a : Answer) (line′
   pub gathered : somePass (on isGathered) (line′ .lane) ≡ somePass (on isGathered) (l .lane)
 
 module _ (l : Line) (book : List ℕ) (lanes-fit : l .lanes ≤ mostLanes) (ok : sound l (length book) ≡ true) (e : Event) (lane : ℕ) (call : LaneCall) (by : scopeOf e ≡ Scope.Lane lane call)
-    (c : Change) (book′ : List ℕ) (seen : Seen) (sees : seen ≡ seenOf l (entryOf lane)) (decision : Decision (decided seen lane (l .view) (l .flag) book call) call book c book′) where
+    (c : Change) (book′ : List ℕ) (seen : Seen) (sees : seen ≡ seenOf l (entryOf lane)) (decision : Decision (decidedChange seen lane (l .view) (l .flag) book call) call book c book′) where
   abbrev j : ℕ
   j = entryOf lane
 
-  change-is : c ≡ decided (seenOf l j) lane (l .view) (l .flag) book call
-  change-is = decision .is ∙ ap (λ (s : Seen). decided s lane (l .view) (l .flag) book call) sees
+  change-is : c ≡ decidedChange (seenOf l j) lane (l .view) (l .flag) book call
+  change-is = decision .is ∙ ap (λ (s : Seen). decidedChange s lane (l .view) (l .flag) book call) sees
 
   regular : Regular (seenOf l j) c
   regular = rw change-is (decided-regular (seenOf l j) lanes-fit lane (l .view) (l .flag) book call)

@@ -8,20 +8,20 @@ use event::Cursor;
 use event::Event;
 use event::Reading;
 use limits::MOST_SHEET;
-use notation::MOST_TEXT;
+use notation::MOST_NOTATION;
 use notation::Parsed;
 
 // The bytes of the longest text: a byte has two digits.
-const MOST_BYTES: usize = MOST_TEXT / 2;
+const MOST_BYTES: usize = MOST_NOTATION / 2;
 
 // Room for a line.
 const LINE: usize = 640;
 
 // The buffers, as functions of which only the lengths are known where they are used.
-fn text_buffer() -> [u8; MOST_TEXT + 1]
+fn text_buffer() -> [u8; MOST_NOTATION + 1]
     ensures { λ r. ⌜ 1048577 ≡ length r ⌝ }
 {
-    [0; MOST_TEXT + 1]
+    [0; MOST_NOTATION + 1]
 }
 
 fn bytes_buffer() -> [u8; MOST_BYTES]

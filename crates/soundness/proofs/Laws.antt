@@ -16,7 +16,7 @@ use Rattle.line.specs.Line.{flagFor, isIdle, on}
 use Rattle.line.specs.Sound.{flagsOk, pastOk}
 use Rattle.line.specs.declared.Line.{Line}
 use Rattle.line.specs.declared.Phase.{Phase}
-use Rattle.lane_tests.specs.Rules.{isFlagged}
+use Rattle.lane_tests.specs.Rules.{flagIsOne}
 
 -- ---- flags that are those of the phases
 idle-flag : (x : Phase) → isIdle x ≡ true → eqb 0 (flagFor x) ≡ true
@@ -33,8 +33,8 @@ module _ (l : Line) (ok : flagsOk l ≡ true) where
   same = same-is (l .flag) (map (on flagFor) (l .lane)) ok
 
   -- a flag is up where a phase has one
-  pub raised-any : somePass (eqb 1) (l .flag) ≡ ltb 0 (countPass (on isFlagged) (l .lane))
-  raised-any = rw same (any-map (on flagFor) (eqb 1) (l .lane) ∙ any-count (on isFlagged) (l .lane))
+  pub raised-any : somePass (eqb 1) (l .flag) ≡ ltb 0 (countPass (on flagIsOne) (l .lane))
+  raised-any = rw same (any-map (on flagFor) (eqb 1) (l .lane) ∙ any-count (on flagIsOne) (l .lane))
 
   idle-past : allPass (on isIdle) (drop (l .lanes) (l .lane)) ≡ true → allPass (eqb 0) (drop (l .lanes) (l .flag)) ≡ true
   idle-past idle =

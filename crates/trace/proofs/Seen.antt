@@ -33,8 +33,8 @@ abbrev pub countFrom : Event → ℕ → ℕ
 countFrom e n = cond (is 0x04 e || is 0x0A e) (field 1 e) n
 
 -- the entry of an event, as its bytes show it
-abbrev pub entryOf : Event → Entry → Said → Entry
-entryOf e d said = record { kind = kindOf e; lane = laneFrom e (d .lane); purpose = purposeFrom e (d .purpose); count = countFrom e (d .count); said = said }
+abbrev pub shownEntry : Event → Entry → Said → Entry
+shownEntry e d said = record { kind = kindOf e; lane = laneFrom e (d .lane); purpose = purposeFrom e (d .purpose); count = countFrom e (d .count); said = said }
 
 -- a byte of the body is a field of one byte
 byte-at : (bytes : List ℕ) (j : ℕ) → j < length bytes → numberOf (take 1 (drop j bytes)) ≡ getD bytes j 0
@@ -46,7 +46,7 @@ byte-at (b ∷ bs) (suc j) h = byte-at bs j (omega arith)
 abbrev Shows : List ℕ → Said → ℕ → Type 0
 Shows bytes said k =
     bodyLength k ≤ length bytes
-    → entry (record { kind = k; body = bytes }) said ≡ entryOf (eventOf k (fieldsIn (fieldLengths k) bytes)) (entry (record { kind = k; body = bytes }) said) said
+    → entry (record { kind = k; body = bytes }) said ≡ shownEntry (eventOf k (fieldsIn (fieldLengths k) bytes)) (entry (record { kind = k; body = bytes }) said) said
 
 shows : (bytes : List ℕ) (said : Said) (k : ℕ) → isListed k ≡ true → Shows bytes said k
 unfolding fieldsIn
@@ -68,8 +68,8 @@ shows bytes said k t =
     k t
 
 -- ---- from the call to its event
-pub shown : (g : CallBytes) (said : Said) (e : Event) → callIn g ≡ given e → isListed (kindOf e) ≡ true → entry g said ≡ entryOf e (entry g said) said
-shown g said e q t =
+pub entry-shown : (g : CallBytes) (said : Said) (e : Event) → callIn g ≡ given e → isListed (kindOf e) ≡ true → entry g said ≡ shownEntry e (entry g said) said
+entry-shown g said e q t =
     by-test (isListed (g .kind))
     (λ l. by-test (leb (bodyLength (g .kind)) (length (g .body)))
     (λ h. let w : given (eventOf (g .kind) (fieldsIn (fieldLengths (g .kind)) (g .body))) ≡ given e = rw (l, h) at q in
@@ -84,7 +84,7 @@ shown g said e q t =
 -- what is so of every refusal and of every event's entry is so of the entry that a call makes
 pub by-entry : (x : State) (g : CallBytes) (P : Entry → Result → Type 0)
     → ((d : Entry) (n : ℕ) → P (record { kind = d .kind; lane = d .lane; purpose = d .purpose; count = d .count; said = saidBy (refuse n x .answer) }) (refuse n x))
-    → ((e : Event) (d : Entry) (r : Result) → Steps nextLane x (given e) r → P (entryOf e d (saidBy (r .answer))) r)
+    → ((e : Event) (d : Entry) (r : Result) → Steps nextLane x (given e) r → P (shownEntry e d (saidBy (r .answer))) r)
     → P (entry g (saidTo nextLane x g)) (stepBy nextLane x (callIn g))
 by-entry x g P refusal event = go (callIn g) refl (steps nextLane x (callIn g))
   where
@@ -92,7 +92,7 @@ by-entry x g P refusal event = go (callIn g) refl (steps nextLane x (callIn g))
     unlisted (refuses n) = refusal (entry g (saidBy (refuse n x .answer))) n
 
     listed : (e : Event) (r : Result) → callIn g ≡ given e → (isListed (kindOf e) ≡ true) ⊎ (e ≡ Event.Unlisted) → Steps nextLane x (given e) r → P (entry g (saidBy (r .answer))) r
-    listed e r q (inl t) s = subst (λ (d : Entry). P d r) (sym (shown g (saidBy (r .answer)) e q t)) (event e (entry g (saidBy (r .answer))) r s)
+    listed e r q (inl t) s = subst (λ (d : Entry). P d r) (sym (entry-shown g (saidBy (r .answer)) e q t)) (event e (entry g (saidBy (r .answer))) r s)
     listed e r q (inr z) s = unlisted (subst (λ (v : Event). Steps nextLane x (given v) r) z s)
 
     go : (c : Call) {r : Result} → callIn g ≡ c → Steps nextLane x c r → P (entry g (saidBy (r .answer))) r

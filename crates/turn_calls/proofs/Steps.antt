@@ -22,7 +22,7 @@ use Rattle.steps.specs.Meets.{stateOf}
 use Rattle.steps.specs.State.{Result, State}
 use Rattle.steps.specs.Step.{callEvent, refuse}
 use Rattle.steps.proofs.Chains.{free-chain, receive-chain, take-chain, want-chain}
-use Rattle.changes.specs.Change.{atLane, changed, entryOf, refusedChange, seenOf}
+use Rattle.changes.specs.Change.{laneTested, changed, entryOf, refusedChange, seenOf}
 use Rattle.changes.specs.declared.Seen.{Seen}
 use Rattle.changes.proofs.Steps.{Gives, either, guarded, lane-step, refused-step, unchanged}
 use Rattle.turn_calls.specs.Turns.{freeChange, freedChange, holdsNow, receiveChange, receivedBy, takeChange, takenChange, takenBy, takenFrom, waits, wantChange, wanted}
@@ -48,7 +48,7 @@ module _ (l : Line) (book : List ℕ) (lanes-fit : l .lanes ≤ mostLanes) (ok :
   raised : (p : Purpose) → Gives l (unchanged book) i (wantStep (stateOf l book) i p) (wanted own (allPass (eqb 0) (set (l .flag) i 0)) p)
   raised p = either l book (unchanged book) (λ k. refl) i (allPass (eqb 0) (set (l .flag) i 0)) {c = holdsNow own p} {d = waits own p} (record { is = refl }) (record { is = refl })
 
-  pub want-step : (purpose : ℕ) → callEvent (stateOf l book) (Event.Want i purpose) ≡ changed l (entryOf i) (atLane seen i (wantChange seen (l .flag) i purpose)) book
+  pub want-step : (purpose : ℕ) → callEvent (stateOf l book) (Event.Want i purpose) ≡ changed l (entryOf i) (laneTested seen i (wantChange seen (l .flag) i purpose)) book
   want-step purpose =
       want-chain nextLane (stateOf l book) i purpose
       ∙ lane-step l book (unchanged book) (λ k. refl) lanes-fit ok i (λ (j : ℕ). wantChange (seenOf l j) (l .flag) i purpose) _
@@ -70,7 +70,7 @@ module _ (l : Line) (book : List ℕ) (lanes-fit : l .lanes ≤ mostLanes) (ok :
   receive-by (Phase.BusyReading left next) = refused-13
   receive-by (Phase.Gathered n) = refused-13
 
-  pub receive-step : callEvent (stateOf l book) (Event.Receive i) ≡ changed l (entryOf i) (atLane seen i (receiveChange seen)) book
+  pub receive-step : callEvent (stateOf l book) (Event.Receive i) ≡ changed l (entryOf i) (laneTested seen i (receiveChange seen)) book
   receive-step =
       receive-chain nextLane (stateOf l book) i
       ∙ lane-step l book (unchanged book) (λ k. refl) lanes-fit ok i (λ (j : ℕ). receiveChange (seenOf l j)) _ (λ h. receive-by (phaseAt l i)) .is
@@ -91,13 +91,13 @@ module _ (l : Line) (book : List ℕ) (lanes-fit : l .lanes ≤ mostLanes) (ok :
     take-by (Phase.BusyReading left next) = refused-13
     take-by (Phase.Gathered n) = refused-13
 
-    pub take-step : callEvent (stateOf l book) (Event.Take i c) ≡ changed l (entryOf i) (atLane seen i (takeChange seen (l .view) (l .flag) i c)) book
+    pub take-step : callEvent (stateOf l book) (Event.Take i c) ≡ changed l (entryOf i) (laneTested seen i (takeChange seen (l .view) (l .flag) i c)) book
     take-step =
         take-chain nextLane (stateOf l book) i c
         ∙ lane-step l book (unchanged book) (λ k. refl) lanes-fit ok i (λ (j : ℕ). takeChange (seenOf l j) (l .view) (l .flag) i c) _ (λ h. take-by (phaseAt l i)) .is
 
   -- ---- 09
-  pub free-step : callEvent (stateOf l book) (Event.Free i) ≡ changed l (entryOf i) (atLane seen i (freeChange seen (l .flag) i)) book
+  pub free-step : callEvent (stateOf l book) (Event.Free i) ≡ changed l (entryOf i) (laneTested seen i (freeChange seen (l .flag) i)) book
   free-step =
       free-chain nextLane (stateOf l book) i
       ∙ lane-step l book (unchanged book) (λ k. refl) lanes-fit ok i (λ (j : ℕ). freeChange (seenOf l j) (l .flag) i) _

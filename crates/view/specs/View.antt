@@ -1,5 +1,6 @@
 -- Document 01, "The view": a view's rules, the position of a place, and what fits.
-use Prim.Native.Nat.{ℕ, zero, suc, _+_, _-_, _*_, _/_, _%_}
+use Prim.Native.Nat.{ℕ, zero, suc, _+_, _-_, _*_, _/_, _%_, _<_}
+use mathlib.Core.Path.{_≡_}
 use mathlib.Core.Bool.{Bool, true, false, cond, _&&_}
 use mathlib.Core.List.{List, [], _∷_}
 use lib.ListN.{take, drop, replicate}
@@ -80,6 +81,11 @@ recordInTile v k = blockRecord (usedBlocks v) ((k .0) % shown v)
 -- "position = displacement + 8 × (tile × extent + record in tile)"; the view rule, and all that turns a place into a position
 unfoldable pub positionOf : View → Place → Position
 positionOf v k = position (v .displacement + 8 * (tileOf v k * v .extent + recordInTile v k))
+
+-- the position of a place that is a number of 32 bits, which is far below 2^64
+pub record Positioned (v : View) (k : Place) (r : Position) : Type 0 where
+  pub is : r ≡ positionOf v k
+  pub below : r .0 < 9007199254740992
 
 -- where the record at a place ends, in bytes
 abbrev pub recordEnd : View → Place → ℕ

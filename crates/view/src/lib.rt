@@ -4,7 +4,7 @@ ghost use Prim.Native.Nat.{ℕ, _≤_, _<_, min};
 ghost use lib.ListN.{take, drop};
 ghost use Rattle.limits.specs.Limits.{mostBlocks};
 ghost use Rattle.lists.specs.Lists.{allPass, sumOf};
-ghost use Rattle.view.specs.View.{place, isUnused, inOrder, viewOk, shown, blockRecord, positionOf, fits, endOfBook};
+ghost use Rattle.view.specs.View.{Positioned, place, isUnused, inOrder, viewOk, shown, blockRecord, fits, endOfBook};
 use limits::MOST_BLOCKS;
 use limits::MOST_EXTENT;
 
@@ -94,9 +94,9 @@ impl View {
     }
 
     // The position of the record with this number among those shown; the sum of lengths is handed in, so that it can be kept.
-    pub fn position_at(self, sum: u32, number: u64) -> Position
+    fn position_at(self, sum: u32, number: u64) -> Position
         requires { ⌜ (sum ≡ shown self) × (number < 8589934592) ⌝ }
-        ensures { λ r. ⌜ (r ≡ positionOf self (place number)) × (r .0 < 9007199254740992) ⌝ }
+        ensures { λ r. ⌜ Positioned self (place number) r ⌝ }
     {
         let displacement = self.displacement as u64;
         let block = self.block;
@@ -110,7 +110,7 @@ impl View {
 
     // The position of a place.
     pub fn position(self, place: Place) -> Position
-        ensures { λ r. ⌜ r ≡ positionOf self place ⌝ }
+        ensures { λ r. ⌜ Positioned self place r ⌝ }
     {
         self.position_at(self.shown(), place.0 as u64)
     }

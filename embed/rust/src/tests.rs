@@ -122,11 +122,11 @@ fn all_three_slices_can_be_empty() {
 }
 
 #[test]
-fn bound_is_28_for_each_byte_and_112_while_it_has_64_bits() {
+fn bound_is_56_for_each_byte_and_112_while_it_has_64_bits() {
     assert_eq!(text_bound(0), Some(112));
     assert_eq!(text_bound(65_536), Some(56 * 65_536 + 112));
-    assert_eq!(text_bound(658_812_288_346_769_696), Some(18_446_744_073_709_551_600));
-    assert_eq!(text_bound(658_812_288_346_769_697), None);
+    assert_eq!(text_bound(329_406_144_173_384_848), Some(18_446_744_073_709_551_600));
+    assert_eq!(text_bound(329_406_144_173_384_849), None);
     assert_eq!(text_bound(usize::MAX), None);
 }
 

@@ -7,7 +7,7 @@ use Rattle.changes.specs.Change.{Within, entryOf, outcomeOf, seenOf}
 use Rattle.changes.specs.declared.Change.{Change}
 use Rattle.changes.specs.declared.Seen.{Seen}
 use Rattle.changes.proofs.Within.{within-of}
-use Rattle.lane_calls.specs.Decided.{bookDecided, decided}
+use Rattle.lane_calls.specs.Decided.{bookDecided, decidedChange}
 use Rattle.lane_calls.proofs.Steps.{decided-regular, decided-step}
 use Rattle.refuse.proofs.Shape.{shape-of}
 use Rattle.event_calls.proofs.Changed.{meets-changed}
@@ -30,7 +30,7 @@ within s = within-of (s .args .line) (length (s .args .book .now)) (shape-of (s 
 
 -- the change, by what the call sees of the line, and the book after it
 abbrev change-of : Seen → tie.Start → Change
-change-of seen s = decided seen (s .args .lane) (s .args .line .view) (s .args .line .flag) (s .args .book .now) (s .args .call)
+change-of seen s = decidedChange seen (s .args .lane) (s .args .line .view) (s .args .line .flag) (s .args .book .now) (s .args .call)
 
 change-is : (c : tie.After-decide) → c .decide .result ≡ change-of (look (start (see-of c))) (start (see-of c))
 change-is c = c .decide .ensures .is ∙ ap (λ (seen : Seen). change-of seen (start (see-of c))) (see-of c .see .ensures)

@@ -10,7 +10,7 @@ use Rattle.record_calls.proofs.put_at.Tie as tie
 
 -- the end of the record as the definition has it
 end-is : (c : tie.After-position) → c .position .result .0 + 8 ≡ recordEnd (c .before .args .view) (c .before .args .place)
-end-is c = ap (λ (p : Position). p .0 + 8) (c .position .ensures)
+end-is c = ap (λ (p : Position). p .0 + 8) (c .position .ensures .is)
 
 cast-end : tie.Need-cast-end
 cast-end c = omega (arith, end-is (c .before), c .before .before .pre, c .before .before .good)
@@ -21,7 +21,7 @@ add-end c = omega (arith, end-is (c .before), c .before .before .pre, c .before 
 returns : tie.Need-returns
 returns c =
     let p = c .before .before .before in
-    rw (← end-is p, ← p .position .ensures, ← c .larger .ensures)
+    rw (← end-is p, ← p .position .ensures .is, ← c .larger .ensures)
 
 pub put-at-spec : {M : Type 1} → statement M
 put-at-spec = tie.close (tie.spec (λ c κs. search needs) cast-end add-end (λ c κs. search needs) returns)

@@ -8,7 +8,7 @@ use borrow.Author.Tests.{eq-eqb, lt-ltb, ne-eqb}
 use Rattle.lists.specs.Lists.{somePass, countPass}
 use Rattle.line.specs.Line.{on}
 use Rattle.line.specs.declared.Line.{Line}
-use Rattle.lane_tests.specs.Rules.{isFlagged}
+use Rattle.lane_tests.specs.Rules.{flagIsOne}
 use Rattle.soundness.proofs.Laws.{raised-any}
 use borrow.Author.Needs.{needs}
 use Rattle.soundness.proofs.turn_ok.Statement.{statement}
@@ -20,7 +20,7 @@ line-at c = c .before .before .before .before .args .line
 flag-up : (c : tie.Else1) → somePass (eqb 1) (line-at c .flag) ≡ true
 flag-up c =
     let some = rw (c .before .before .tally-of .ensures) at (c .if1 .left) in
-    let positive : 0 < countPass (on isFlagged) (line-at c .lane) = omega arith in
+    let positive : 0 < countPass (on flagIsOne) (line-at c .lane) = omega arith in
     raised-any (line-at c) (c .before .before .before .before .pre) ∙ lt-ltb 0 _ positive
 
 returns : tie.Need-returns

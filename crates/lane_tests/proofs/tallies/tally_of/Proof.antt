@@ -7,14 +7,14 @@ use Rattle.lists.specs.Lists.{countPass, sumOf}
 use Rattle.lists.proofs.Loops.{count-end, count-more, sum-end, sum-more}
 use Rattle.limits.specs.Limits.{mostLanes}
 use Rattle.line.specs.Line.{countIn, hasTurn, idleLane, isGathered, on}
-use Rattle.lane_tests.specs.Rules.{isFlagged}
+use Rattle.lane_tests.specs.Rules.{flagIsOne}
 use borrow.Author.Needs.{needs}
 use Rattle.lane_tests.proofs.tallies.tally_of.Statement.{statement}
 use Rattle.lane_tests.proofs.tallies.tally_of.Tie as tie
 
 abbrev Inv-loop : tie.InvT-loop
 Inv-loop lane flagged₀ turns₀ gathered₀ total₀ i₀ flagged turns gathered total i =
-    (flagged + countPass (on isFlagged) (drop i lane) ≡ countPass (on isFlagged) lane)
+    (flagged + countPass (on flagIsOne) (drop i lane) ≡ countPass (on flagIsOne) lane)
     × (turns + countPass (on hasTurn) (drop i lane) ≡ countPass (on hasTurn) lane)
     × (gathered + countPass (on isGathered) (drop i lane) ≡ countPass (on isGathered) lane)
     × (total + sumOf (on countIn) (drop i lane) ≡ sumOf (on countIn) lane)
@@ -41,7 +41,7 @@ loop-again c =
       flagged,
       turns,
       gathered,
-      count-more (on isFlagged) (a .t1) i idleLane room,
+      count-more (on flagIsOne) (a .t1) i idleLane room,
       count-more (on hasTurn) (a .t1) i idleLane room,
       count-more (on isGathered) (a .t1) i idleLane room,
       sum-more (on countIn) (a .t1) i idleLane room,
@@ -52,7 +52,7 @@ returns c =
     let a = c .before .before .args in
     let i = c .before .loop .i in
     let past : length (a .t1) ≤ i = search needs in
-    let flagged : c .before .loop .flagged ≡ countPass (on isFlagged) (a .t1) = omega (arith, count-end (on isFlagged) (a .t1) i idleLane past) in
+    let flagged : c .before .loop .flagged ≡ countPass (on flagIsOne) (a .t1) = omega (arith, count-end (on flagIsOne) (a .t1) i idleLane past) in
     let turns : c .before .loop .turns ≡ countPass (on hasTurn) (a .t1) = omega (arith, count-end (on hasTurn) (a .t1) i idleLane past) in
     let gathered : c .before .loop .gathered ≡ countPass (on isGathered) (a .t1) = omega (arith, count-end (on isGathered) (a .t1) i idleLane past) in
     let total : c .before .loop .total ≡ sumOf (on countIn) (a .t1) = omega (arith, sum-end (on countIn) (a .t1) i idleLane past) in
