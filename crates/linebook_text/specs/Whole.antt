@@ -1,5 +1,5 @@
 -- What `linebook` prints of a sheet, in a lent buffer. Tied to `linebook` of `printout`, where there is room, by linebook_text/Linebook: prints-linebook.
-use Prim.Native.Nat.{ℕ}
+use Prim.Native.Nat.{ℕ, _≤_}
 use mathlib.Core.Bool.{Bool, true, cond}
 use mathlib.Core.Path.{_≡_}
 use mathlib.Core.List.{List}
@@ -7,7 +7,9 @@ use lib.Dec.{ltb}
 use lib.ListN.{length}
 use lib.Seq.{sets}
 use Rattle.steps.specs.State.{fresh}
-use Rattle.limits.specs.Limits.{mostSheet}
+use Rattle.limits.specs.Limits.{mostCapacity, mostSheet}
+use Rattle.printout.specs.Print.{linebook}
+use Rattle.run_text.specs.RunText.{mostText}
 use Rattle.printout.specs.Text.{ascii}
 use Rattle.answer_text.specs.declared.Printed.{Printed}
 use Rattle.run.specs.Runs.{leftByRun, printedBy, textFits, textIn}
@@ -36,9 +38,16 @@ pub record TooLongMeets (out : List ℕ) (r : Printed) (out-left : List ℕ) : T
   pub answer : r ≡ tooLongPrinted out
   pub text : out-left ≡ tooLongText out
 
+-- the definition's text at the buffer's start, and its length answered
+pub record Prints (sheet out : List ℕ) (r : Printed) (out-left : List ℕ) : Type 0 where
+  pub answer : r ≡ Printed.Length (length (linebook sheet))
+  pub text : out-left ≡ sets out 0 (linebook sheet)
+
 -- what is printed of a sheet: what is answered, the book, the buffer, and that the text lies within it
 pub record SheetMeets (book sheet out : List ℕ) (r : Printed) (book-left out-left : List ℕ) : Type 0 where
   pub answer : r ≡ sheetPrinted book sheet out
   pub book-after : book-left ≡ bookOf book sheet out
   pub text : out-left ≡ textOf book sheet out
   pub fits : textFits r (length out) ≡ true
+  -- with a book of the greatest capacity and room for the longest text it is what `linebook` prints, whatever the book held
+  pub whole : length book ≡ mostCapacity → mostText mostSheet ≤ length out → Prints sheet out r out-left

@@ -1,12 +1,14 @@
 -- Document 01, "One sheet, whole": what `linebook` prints of a sheet, to the byte.
 use Prim.Native.Nat.{ℕ, zero, suc, _+_, _/_, _%_, _^_}
 use mathlib.Core.Bool.{cond}
-use mathlib.Core.List.{List, [], _∷_, _++_}
-use lib.ListN.{length, replicate}
+use mathlib.Core.List.{List, [], _∷_, _++_, map}
+use lib.ListN.{drop, length, replicate, take}
 use lib.Dec.{ltb, leb}
 use Rattle.limits.specs.Limits.{mostCapacity, mostSheet}
 use Rattle.view.specs.declared.Place.{Place}
+use Rattle.waitlist.specs.NextLane.{wakesValues}
 use Rattle.waitlist.specs.declared.Wakes.{Wakes}
+use Rattle.steps.specs.Answer.{saidBy}
 use Rattle.steps.specs.State.{State, fresh}
 use Rattle.steps.specs.declared.Answer.{Answer}
 use Rattle.printout.specs.Run.{Ran, run}
@@ -35,26 +37,33 @@ words [] = []
 words (w ∷ []) = w ++ ascii "\n"
 words (w ∷ v ∷ ws) = w ++ ascii " " ++ words (v ∷ ws)
 
--- "`wakes` and the lane or `none`"
-abbrev pub wakesWords : Wakes → List (List ℕ)
-wakesWords (Wakes.Lane i) = ascii "wakes" ∷ decimal i ∷ []
-wakesWords Wakes.None = ascii "wakes" ∷ ascii "none" ∷ []
+-- "`wakes` and the lane or `none`", by the values that a release has of it
+abbrev pub wakesText : List ℕ → List (List ℕ)
+wakesText [] = ascii "wakes" ∷ ascii "none" ∷ []
+wakesText (i ∷ more) = ascii "wakes" ∷ decimal i ∷ []
 
--- "the answer, its values"
+abbrev pub wakesWords : Wakes → List (List ℕ)
+wakesWords w = wakesText (wakesValues w)
+
+-- "the answer, its values": a word, and the values that the answer says, in decimal
+abbrev pub valueWords : Answer → List (List ℕ)
+valueWords a = map decimal (saidBy a .values)
+
 unfoldable pub answerWords : Answer → List (List ℕ)
-answerWords (Answer.Open lanes capacity) = ascii "open" ∷ decimal lanes ∷ decimal capacity ∷ []
-answerWords (Answer.Holds pointer) = ascii "holds" ∷ decimal (pointer .0) ∷ []
-answerWords Answer.Waits = ascii "waits" ∷ []
-answerWords (Answer.Region start count wakes) = ascii "region" ∷ decimal (start .0) ∷ decimal count ∷ wakesWords wakes
-answerWords (Answer.Wrote position) = ascii "wrote" ∷ decimal (position .0) ∷ []
-answerWords (Answer.Record content) = ascii "record" ∷ hexIn 16 content ∷ []
-answerWords Answer.None = ascii "none" ∷ []
-answerWords (Answer.Freed wakes) = ascii "freed" ∷ wakesWords wakes
-answerWords Answer.Gathered = ascii "gathered" ∷ []
-answerWords (Answer.Ordered before total) = ascii "ordered" ∷ decimal (before .0) ∷ decimal total ∷ []
-answerWords Answer.View = ascii "view" ∷ []
-answerWords (Answer.Seek pointer) = ascii "seek" ∷ decimal (pointer .0) ∷ []
-answerWords (Answer.Refused number) = ascii "refused" ∷ decimal number ∷ []
+answerWords (Answer.Open lanes capacity) = ascii "open" ∷ valueWords (Answer.Open lanes capacity)
+answerWords (Answer.Holds pointer) = ascii "holds" ∷ valueWords (Answer.Holds pointer)
+answerWords Answer.Waits = ascii "waits" ∷ valueWords Answer.Waits
+answerWords (Answer.Region start count wakes) =
+    ascii "region" ∷ take 2 (valueWords (Answer.Region start count wakes)) ++ wakesText (drop 2 (saidBy (Answer.Region start count wakes) .values))
+answerWords (Answer.Wrote position) = ascii "wrote" ∷ valueWords (Answer.Wrote position)
+answerWords (Answer.Record content) = ascii "record" ∷ map (hexIn 16) (saidBy (Answer.Record content) .values)
+answerWords Answer.None = ascii "none" ∷ valueWords Answer.None
+answerWords (Answer.Freed wakes) = ascii "freed" ∷ wakesText (saidBy (Answer.Freed wakes) .values)
+answerWords Answer.Gathered = ascii "gathered" ∷ valueWords Answer.Gathered
+answerWords (Answer.Ordered before total) = ascii "ordered" ∷ valueWords (Answer.Ordered before total)
+answerWords Answer.View = ascii "view" ∷ valueWords Answer.View
+answerWords (Answer.Seek pointer) = ascii "seek" ∷ valueWords (Answer.Seek pointer)
+answerWords (Answer.Refused number) = ascii "refused" ∷ decimal (saidBy (Answer.Refused number) .number) ∷ valueWords (Answer.Refused number)
 
 -- "a line an event: its number from 0, the answer, its values"
 abbrev pub answerLine : ℕ → Answer → List ℕ

@@ -7,3 +7,4 @@ pub mod Edges
 pub mod Release
 pub mod Ordered
 pub mod Keeps
+pub mod Numbers

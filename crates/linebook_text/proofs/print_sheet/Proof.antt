@@ -11,6 +11,7 @@ use Rattle.answer_text.specs.declared.Printed.{Printed}
 use Rattle.run.specs.Runs.{textFits}
 use Rattle.linebook_text.specs.Whole.{tooLongPrinted}
 use Rattle.linebook_text.proofs.Fresh.{from-unopened}
+use Rattle.linebook_text.proofs.Linebook.{prints-linebook}
 use borrow.Author.Needs.{needs}
 use Rattle.linebook_text.proofs.print_sheet.Statement.{statement}
 use Rattle.linebook_text.proofs.print_sheet.Tie as tie
@@ -30,6 +31,7 @@ returns c =
       book-after = rw long refl;
       text = rw long (p .print-too-long .ensures .text);
       fits = subst (λ (q : Printed). textFits q (length (s .args .out .now)) ≡ true) (sym (p .print-too-long .ensures .answer)) (short-fits (s .args .out .now));
+      whole = λ b h. rw (p .print-too-long .ensures .answer, p .print-too-long .ensures .text) (rw long at (prints-linebook (s .args .book .now) (s .args .sheet .now) (s .args .out .now) b h));
     }
 
 returns-2 : tie.Need-returns-2
@@ -39,7 +41,14 @@ returns-2 c =
     let e = u .before in
     let short = le-ltb _ _ (e .if1 .left) in
     let m = from-unopened _ _ _ _ _ _ _ (u .unopened .ensures) (r .run .ensures) in
-    record { answer = rw short (m .answer); book-after = rw short (m .book); text = rw short (m .text); fits = m .fits }
+    let a = e .before .before .before .args in
+    record {
+      answer = rw short (m .answer);
+      book-after = rw short (m .book);
+      text = rw short (m .text);
+      fits = m .fits;
+      whole = λ b h. rw (m .answer, m .text) (rw short at (prints-linebook (a .book .now) (a .sheet .now) (a .out .now) b h));
+    }
 
 pub print-sheet-spec : {M : Type 1} → statement M
 print-sheet-spec =
