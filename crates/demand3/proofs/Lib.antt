@@ -5,3 +5,4 @@ pub mod Status
 pub mod Places
 pub mod Goes
 pub mod Theorem
+pub mod Sheets
