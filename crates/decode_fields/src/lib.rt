@@ -3,7 +3,7 @@ use event::Blocks;
 use view::Block;
 ghost use mathlib.Core.Path.{_≡_};
 ghost use mathlib.Core.List.{[], _∷_};
-ghost use Prim.Native.Nat.{ℕ, _+_, _≤_, _<_};
+ghost use Prim.Native.Nat.{_+_, _≤_, _<_};
 ghost use lib.Dec.{leb};
 ghost use lib.ListN.{drop, length, replicate, take};
 ghost use Rattle.event.specs.BigEndian.{numberOf, signed};

@@ -3,7 +3,7 @@ use Prim.Native.Nat.{ℕ, zero, suc, _+_}
 use mathlib.Core.Path.{_≡_, refl, sym, ap, _∙_, subst}
 use mathlib.Core.Logic.{_⊎_, inl, inr}
 use mathlib.Core.Bool.{true, cond}
-use mathlib.Core.List.{List, [], _∷_, _++_, append-nil, map}
+use mathlib.Core.List.{List, [], _∷_, append-nil, map}
 use native.Mathlib.Omega.{arith}
 use lib.Dec.{leb}
 use lib.ListN.{drop, getD, length}
@@ -12,7 +12,7 @@ use Rattle.line.specs.Sound.{sound}
 use Rattle.line.proofs.Facts.{sound-of}
 use Rattle.waitlist.specs.NextLane.{nextLane}
 use Rattle.event.specs.Kinds.{bodyLength, isListed}
-use Rattle.event.specs.Event.{Call, callOf, cutShort, given, kindOf}
+use Rattle.event.specs.Event.{Call, cutShort, given, kindOf}
 use Rattle.event.specs.ReadWrite.{readAt, readingOf}
 use Rattle.event.specs.Typed.{Typed}
 use Rattle.event.specs.declared.Cursor.{Cursor}

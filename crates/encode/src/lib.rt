@@ -2,7 +2,7 @@
 use event::Event;
 use event::Writing;
 ghost use mathlib.Core.Path.{_≡_};
-ghost use Prim.Native.Nat.{ℕ, _≤_};
+ghost use Prim.Native.Nat.{_≤_};
 ghost use lib.ListN.{length};
 ghost use Rattle.event.specs.ReadWrite.{writingOf, writtenTo};
 ghost use Rattle.encode.specs.Written.{lengthOfEvent, withEvent};

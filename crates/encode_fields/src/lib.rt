@@ -4,7 +4,7 @@ use event::Blocks;
 use view::Block;
 ghost use mathlib.Core.Path.{_≡_};
 ghost use mathlib.Core.List.{[], _∷_};
-ghost use Prim.Native.Nat.{ℕ, _+_, _≤_, _<_};
+ghost use Prim.Native.Nat.{_+_, _≤_, _<_};
 ghost use lib.ListN.{length, replicate};
 ghost use Rattle.event.specs.BigEndian.{unsigned};
 ghost use Rattle.event.specs.Event.{blockList, blockNumbers};

@@ -1,5 +1,5 @@
 -- The kinds of the table: what holds for each of them holds for every listed kind; an event is its kind and its fields, and back.
-use Prim.Native.Nat.{ℕ, zero, suc, _+_, _≤_, _<_}
+use Prim.Native.Nat.{ℕ, suc, _+_, _≤_, _<_}
 use mathlib.Core.Path.{_≡_, refl, ap}
 use mathlib.Core.Logic.{_⊎_, inl, inr}
 use mathlib.Core.Bool.{true, false, false≢true}
@@ -13,7 +13,7 @@ use Rattle.lists.proofs.Tests.{and-left, and-right, both}
 use Rattle.event.specs.BigEndian.{numberOf}
 use Rattle.event.specs.Kinds.{bodyLength, fieldLengths, isListed, kinds}
 use Rattle.event.specs.Event.{eventOf, fieldsIn, fieldsOf, kindOf}
-use Rattle.event.specs.Typed.{AreBytes, Fit, Typed}
+use Rattle.event.specs.Typed.{AreBytes, Typed}
 use Rattle.event.specs.declared.Event.{Event}
 use Rattle.event.proofs.Numbers.{signed-of-unsigned, unsigned-of-signed}
 use Rattle.event.proofs.Fields.{bytes-drop, field-below}

@@ -1,15 +1,12 @@
 -- An event is the event of the call that it makes.
-use Prim.Native.Nat.{ℕ}
 use mathlib.Core.Path.{_≡_, refl, sym, ap, _∙_}
 use mathlib.Core.Bool.{true}
 use Rattle.lists.proofs.Tests.{both}
 use Rattle.event.specs.Kinds.{isListed}
 use Rattle.event.specs.Event.{kindOf}
 use Rattle.event.specs.declared.Event.{Event}
-use Rattle.scopes.specs.declared.LaneCall.{LaneCall}
-use Rattle.scopes.specs.declared.LineCall.{LineCall}
 use Rattle.scopes.specs.declared.Scope.{Scope}
-use Rattle.scopes.specs.Scope.{eventIn, laneEvent, lineEvent, scopeOf}
+use Rattle.scopes.specs.Scope.{eventIn, scopeOf}
 
 pub scope-event : (e : Event) → eventIn (scopeOf e) ≡ e
 scope-event (Event.Open lanes capacity) = refl

@@ -1,6 +1,6 @@
 // The view: places, positions and the blocks that a view shows of each tile.
 ghost use mathlib.Core.Path.{_≡_};
-ghost use Prim.Native.Nat.{ℕ, _≤_, _<_, min};
+ghost use Prim.Native.Nat.{_≤_, _<_, min};
 ghost use lib.ListN.{take, drop};
 ghost use Rattle.limits.specs.Limits.{mostBlocks};
 ghost use Rattle.lists.specs.Lists.{allPass, sumOf};

@@ -5,7 +5,7 @@ use lib.ListN.{length}
 use borrow.Author.Tests.{not-false, not-true}
 use Rattle.line.specs.Sound.{sound}
 use Rattle.event.specs.Event.{given}
-use Rattle.scopes.specs.Scope.{eventIn, scopeOf}
+use Rattle.scopes.specs.Scope.{eventIn}
 use Rattle.scopes.specs.declared.Scope.{Scope}
 use Rattle.scopes.proofs.Scopes.{found-event}
 use Rattle.event_calls.proofs.Unsound.{unlisted-refused, unsound}

@@ -41,7 +41,7 @@ returns-2 c =
     let e = u .before in
     let short = le-ltb _ _ (e .if1 .left) in
     let m = from-unopened _ _ _ _ _ _ _ (u .unopened .ensures) (r .run .ensures) in
-    let a = e .before .before .before .args in
+    let a = e .before .before .before .before .args in
     record {
       answer = rw short (m .answer);
       book-after = rw short (m .book);

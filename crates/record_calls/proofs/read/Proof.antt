@@ -4,7 +4,6 @@ use mathlib.Core.Path.{ap, sym, _∙_}
 use native.Mathlib.Omega.{arith}
 use Rattle.view.specs.View.{place}
 use Rattle.steps.specs.Effects.{reading}
-use Rattle.changes.specs.Change.{refusedChange}
 use Rattle.changes.proofs.Arms.{not-reading}
 use Rattle.record_calls.specs.Records.{readBy, recordFound}
 use borrow.Author.Needs.{needs}

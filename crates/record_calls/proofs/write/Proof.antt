@@ -5,7 +5,6 @@ use native.Mathlib.Omega.{arith}
 use Rattle.view.specs.View.{place}
 use Rattle.steps.specs.Effects.{writing}
 use Rattle.steps.proofs.Keeps.{record-ends}
-use Rattle.changes.specs.Change.{refusedChange}
 use Rattle.changes.proofs.Arms.{not-writing}
 use Rattle.record_calls.specs.Records.{recordPut, writtenBy}
 use borrow.Author.Needs.{needs}

@@ -1,6 +1,5 @@
 -- `receive` meets its contract, phase by phase.
 use mathlib.Core.Path.{ap, sym, _∙_}
-use Rattle.changes.specs.Change.{refusedChange}
 use Rattle.turn_calls.specs.Turns.{receivedBy}
 use Rattle.changes.proofs.Arms.{nor-waiting, not-woken}
 use borrow.Author.Needs.{needs}

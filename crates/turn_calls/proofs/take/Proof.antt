@@ -1,6 +1,5 @@
 -- `take` meets its contract.
 use mathlib.Core.Path.{ap, sym, _∙_}
-use Rattle.changes.specs.Change.{refusedChange}
 use Rattle.turn_calls.specs.Turns.{takenFrom}
 use Rattle.changes.proofs.Arms.{not-holding}
 use borrow.Author.Needs.{needs}
