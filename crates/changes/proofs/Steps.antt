@@ -14,8 +14,9 @@ use Rattle.line.specs.declared.Lane.{Lane}
 use Rattle.line.specs.declared.Line.{Line}
 use Rattle.line.specs.declared.Phase.{Phase}
 use Rattle.limits.specs.Limits.{mostLanes}
-use Rattle.line.specs.Line.{idleLane, isGathered, lane, on}
+use Rattle.line.specs.Line.{idleLane, isGathered, lane, on, isWaiting}
 use Rattle.line.specs.Sound.{sound}
+use Rattle.line.proofs.Phases.{numbered}
 use Rattle.view.specs.declared.Place.{Place}
 use Rattle.waitlist.specs.declared.Wakes.{Wakes}
 use Rattle.waitlist.specs.NextLane.{nextLane}
@@ -112,13 +113,7 @@ any-set (l ∷ ls) zero x e = rw e
 any-set (l ∷ ls) (suc i) x e = rw (any-set ls i x e)
 
 woken-gathered : (v : Place) (x : Phase) → isGathered (woken v x) ≡ isGathered x
-woken-gathered v Phase.Idle = refl
-woken-gathered v (Phase.Waiting p) = refl
-woken-gathered v (Phase.Woken p w) = refl
-woken-gathered v (Phase.Holding p w) = refl
-woken-gathered v (Phase.BusyWriting left next) = refl
-woken-gathered v (Phase.BusyReading left next) = refl
-woken-gathered v (Phase.Gathered n) = refl
+woken-gathered v x = by-test (isWaiting x) (λ w. rw (numbered x 1 w)) (λ w. rw w)
 
 module _ (l : Line) (i : ℕ) (x : Phase) (own : isGathered x ≡ isGathered (getD (l .lane) i idleLane .phase)) where
   abbrev stored : List Lane

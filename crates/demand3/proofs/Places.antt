@@ -18,8 +18,9 @@ use Rattle.line.specs.declared.Purpose.{Purpose}
 use Rattle.line.specs.declared.Phase.{Phase}
 use Rattle.line.specs.declared.Lane.{Lane}
 use Rattle.line.specs.declared.Line.{Line}
-use Rattle.line.specs.Line.{countIn, idleLane, isIdleOrGathered, lane, on, phaseAt}
+use Rattle.line.specs.Line.{countIn, idleLane, isIdleOrGathered, lane, on, phaseAt, isWaiting}
 use Rattle.line.specs.Sound.{gatheredTotal}
+use Rattle.line.proofs.Phases.{numbered-is}
 use Rattle.waitlist.specs.NextLane.{nextLane}
 use Rattle.waitlist.specs.declared.Wakes.{Wakes}
 use Rattle.event.specs.Event.{given}
@@ -123,13 +124,8 @@ wake-lanes t (Wakes.Lane i) = refl
 wake-lanes t Wakes.None = refl
 
 woken-count : (v : Place) (y : Phase) → countIn (woken v y) ≡ countIn y
-woken-count v Phase.Idle = refl
-woken-count v (Phase.Waiting p) = refl
-woken-count v (Phase.Woken p w) = refl
-woken-count v (Phase.Holding p w) = refl
-woken-count v (Phase.BusyWriting n k) = refl
-woken-count v (Phase.BusyReading n k) = refl
-woken-count v (Phase.Gathered n) = refl
+woken-count v y =
+    by-test (isWaiting y) (λ w. let none : countIn y ≡ 0 = ap countIn (numbered-is y 1 w) in rw (w, none)) (λ w. rw w)
 
 busy-count : (n : ℕ) (y : Phase) → countIn y ≡ 0 → countIn (cond (eqb n 0) Phase.Idle y) ≡ 0
 busy-count n y e = busy-by (λ (z : Phase). countIn z ≡ 0) n y (λ z. refl) (λ z. e)

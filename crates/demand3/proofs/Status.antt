@@ -9,14 +9,15 @@ use lib.ListN.{getD}
 use lib.Dec.{eqb, leb}
 use borrow.Author.Tests.{eq-eqb, ne-eqb}
 use Rattle.lists.specs.Lists.{somePass}
-use Rattle.lists.proofs.Tests.{at-test, by-test, clash}
+use Rattle.lists.proofs.Tests.{at-test, by-test, neither-left, neither-right}
 use Rattle.lists.proofs.Counts.{all-getD}
 use Rattle.view.specs.View.{place, recordEnd}
 use Rattle.view.specs.declared.Place.{Place}
 use Rattle.line.specs.declared.Purpose.{Purpose}
 use Rattle.line.specs.declared.Phase.{Phase}
-use Rattle.line.specs.Line.{idleLane, isFlagged, isIdleOrGathered, on, phaseAt}
+use Rattle.line.specs.Line.{idleLane, isFlagged, isIdleOrGathered, on, phaseAt, isHolding, isIdle, isWoken, purposeIn}
 use Rattle.line.specs.Line as phases
+use Rattle.line.proofs.Phases.{numbered}
 use Rattle.waitlist.specs.NextLane.{nextLane, wakesValues}
 use Rattle.waitlist.specs.declared.Wakes.{Wakes}
 use Rattle.event.specs.Event.{given}
@@ -48,50 +49,29 @@ number-kept (suc (suc zero)) h = refl
 number-kept (suc (suc (suc n))) h = absurd (omega arith)
 
 abbrev pub statusOf : Phase → Status
-statusOf Phase.Idle = off
-statusOf (Phase.Waiting p) = waiting (numberFor p)
-statusOf (Phase.Woken p v) = woken (numberFor p)
-statusOf (Phase.Holding p v) = holding (numberFor p)
-statusOf (Phase.BusyWriting n k) = off
-statusOf (Phase.BusyReading n k) = off
-statusOf (Phase.Gathered n) = off
+statusOf y =
+    cond (phases.isWaiting y) (waiting (numberFor (purposeIn y)))
+    (cond (isWoken y) (woken (numberFor (purposeIn y)))
+    (cond (isHolding y) (holding (numberFor (purposeIn y))) off))
 
 pub waits-is : (y : Phase) → statusWaits (statusOf y) ≡ phases.isWaiting y
-waits-is Phase.Idle = refl
-waits-is (Phase.Waiting p) = refl
-waits-is (Phase.Woken p v) = refl
-waits-is (Phase.Holding p v) = refl
-waits-is (Phase.BusyWriting n k) = refl
-waits-is (Phase.BusyReading n k) = refl
-waits-is (Phase.Gathered n) = refl
+waits-is y =
+    by-test (phases.isWaiting y) (λ t. rw t)
+    (λ f. rw f (by-test (isWoken y) (λ w. rw w) (λ w. rw w (by-test (isHolding y) (λ h. rw h) (λ h. rw h)))))
 
 pub turn-is : (y : Phase) → statusHasTurn (statusOf y) ≡ phases.hasTurn y
-turn-is Phase.Idle = refl
-turn-is (Phase.Waiting p) = refl
-turn-is (Phase.Woken p v) = refl
-turn-is (Phase.Holding p v) = refl
-turn-is (Phase.BusyWriting n k) = refl
-turn-is (Phase.BusyReading n k) = refl
-turn-is (Phase.Gathered n) = refl
+turn-is y =
+    by-test (phases.isWaiting y) (λ t. rw (numbered y 1 t))
+    (λ f. rw f (by-test (isWoken y) (λ w. rw w) (λ w. rw w (by-test (isHolding y) (λ h. rw h) (λ h. rw h)))))
 
 ready-off : (y : Phase) → isIdleOrGathered y ≡ true → statusOf y ≡ off
-ready-off Phase.Idle e = refl
-ready-off (Phase.Waiting p) e = clash (sym e)
-ready-off (Phase.Woken p v) e = clash (sym e)
-ready-off (Phase.Holding p v) e = clash (sym e)
-ready-off (Phase.BusyWriting n k) e = clash (sym e)
-ready-off (Phase.BusyReading n k) e = clash (sym e)
-ready-off (Phase.Gathered n) e = refl
+ready-off y e = by-test (isIdle y) (λ i. rw (numbered y 0 i)) (λ i. rw (numbered y 6 (rw i at e)))
 
 -- a lane whose flag is not up stands off
 down-off : (y : Phase) → isFlagged y ≡ false → statusOf y ≡ off
-down-off Phase.Idle e = refl
-down-off (Phase.Waiting p) e = clash e
-down-off (Phase.Woken p v) e = clash e
-down-off (Phase.Holding p v) e = clash e
-down-off (Phase.BusyWriting n k) e = refl
-down-off (Phase.BusyReading n k) e = refl
-down-off (Phase.Gathered n) e = refl
+down-off y e =
+    let turn = neither-right (phases.isWaiting y) (phases.hasTurn y) e in
+    rw (neither-left (phases.isWaiting y) (phases.hasTurn y) e, neither-left (isWoken y) (isHolding y) turn, neither-right (isWoken y) (isHolding y) turn)
 
 busy-off : (n : ℕ) (y : Phase) → statusOf y ≡ off → statusOf (cond (eqb n 0) Phase.Idle y) ≡ off
 busy-off n y e = busy-by (λ (z : Phase). statusOf z ≡ off) n y (λ z. refl) (λ z. e)

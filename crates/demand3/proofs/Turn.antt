@@ -2,14 +2,14 @@
 use Prim.Native.Nat.{ℕ, _+_, _-_, _<_}
 use mathlib.Core.Path.{_≡_, refl, sym, ap, _∙_}
 use mathlib.Core.Logic.{_≢_, _⊎_, inl, inr}
-use mathlib.Core.Bool.{Bool, true, false, cond, _&&_, or-false}
+use mathlib.Core.Bool.{Bool, true, false, cond, _&&_, or-false, or-true}
 use native.Mathlib.Omega.{arith}
 use native.Mathlib.Decide.{decLt, ℕ-discrete}
 use lib.ListN.{getD}
 use lib.Dec.{eqb, leb}
 use borrow.Author.Tests.{eq-eqb, ne-eqb}
 use Rattle.lists.specs.Lists.{allPass, somePass, countPass}
-use Rattle.lists.proofs.Tests.{at-test, both, by-test, clash}
+use Rattle.lists.proofs.Tests.{at-test, both, by-test}
 use Rattle.lists.proofs.Counts.{all-count, count-find, count-one, count-pos, set-keeps}
 use Rattle.view.specs.View.{place, recordEnd}
 use Rattle.view.specs.declared.Place.{Place}
@@ -19,7 +19,7 @@ use Rattle.line.specs.declared.Lane.{Lane}
 use Rattle.line.specs.declared.Line.{Line}
 use Rattle.line.specs.Line.{hasTurn, idleLane, isFlagged, isIdle, isIdleOrGathered, isWaiting, lane, on, phaseAt}
 use Rattle.line.proofs.Facts.{Facts}
-use Rattle.line.proofs.Phases.{waiting-up}
+use Rattle.line.proofs.Phases.{waiting-up, numbered}
 use Rattle.waitlist.specs.Distance.{distance}
 use Rattle.waitlist.specs.NextLane.{nextLane, wakesValues}
 use Rattle.waitlist.specs.declared.Wakes.{Wakes}
@@ -38,22 +38,10 @@ use Rattle.trace.proofs.Seen.{shownEntry}
 
 -- ---- phases
 pub turn-up : (y : Phase) → hasTurn y ≡ true → isFlagged y ≡ true
-turn-up Phase.Idle e = clash (sym e)
-turn-up (Phase.Waiting p) e = clash (sym e)
-turn-up (Phase.Woken p v) e = refl
-turn-up (Phase.Holding p v) e = refl
-turn-up (Phase.BusyWriting n k) e = clash (sym e)
-turn-up (Phase.BusyReading n k) e = clash (sym e)
-turn-up (Phase.Gathered n) e = clash (sym e)
+turn-up y e = rw e (or-true (isWaiting y))
 
 pub waits-no-turn : (y : Phase) → isWaiting y ≡ true → hasTurn y ≡ false
-waits-no-turn Phase.Idle e = refl
-waits-no-turn (Phase.Waiting p) e = refl
-waits-no-turn (Phase.Woken p v) e = clash (sym e)
-waits-no-turn (Phase.Holding p v) e = clash (sym e)
-waits-no-turn (Phase.BusyWriting n k) e = refl
-waits-no-turn (Phase.BusyReading n k) e = refl
-waits-no-turn (Phase.Gathered n) e = refl
+waits-no-turn y e = rw (numbered y 1 e)
 
 -- ---- lanes of a sound line
 -- two lanes that a test tells apart

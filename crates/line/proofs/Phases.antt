@@ -1,15 +1,18 @@
 -- What holds of each phase by itself.
-use Prim.Native.Nat.{_+_, _≤_}
-use mathlib.Core.Path.{_≡_, refl, sym}
-use mathlib.Core.Bool.{Bool, true, false, or-comm, and-comm, and-false}
+use Prim.Native.Nat.{ℕ, _+_, _≤_}
+use mathlib.Core.Path.{_≡_, refl, ap, _∙_}
+use mathlib.Core.Bool.{Bool, true, false, or-comm, or-false, and-comm, and-false}
+use mathlib.Core.List.{List, [], _∷_}
 use native.Mathlib.Omega.{arith}
 use lib.Dec.{eqb, leb}
+use lib.ListN.{getD}
+use borrow.Author.Tests.{eqb-true}
 use Rattle.lists.specs.Lists.{bit}
-use Rattle.lists.proofs.Tests.{clash}
+use Rattle.lists.proofs.Tests.{by-test}
 use Rattle.view.specs.declared.Place.{Place}
 use Rattle.line.specs.declared.Phase.{Phase}
 use Rattle.line.specs.declared.Line.{Line}
-use Rattle.line.specs.Line.{flagFor, hasTurn, isBusy, isFlagged, isGathered, isHolding, isIdle, isIdleOrGathered, isReading, isWaiting, isWoken, isWriting, placeIn, purposeIn, leftIn}
+use Rattle.line.specs.Line.{countIn, flagFor, hasTurn, isBusy, isFlagged, isGathered, isHolding, isIdle, isIdleOrGathered, isReading, isWaiting, isWoken, isWriting, leftIn, phaseNumber, placeIn, purposeIn}
 use Rattle.line.specs.Sound.{apart, regionEnd, regionOk, valueOk}
 
 -- a test as a flag, and back
@@ -33,88 +36,65 @@ waiting-up x e = rw e
 pub flag-down : (x : Phase) → isFlagged x ≡ false → flagFor x ≡ 0
 flag-down x e = rw e
 
+-- ---- a phase has one number: laws about tests hold for phases that are added, too
+pub numbered : (x : Phase) (k : ℕ) → eqb (phaseNumber x) k ≡ true → phaseNumber x ≡ k
+numbered x k e = eqb-true (phaseNumber x) k e
+
+bit-most : (b : Bool) → bit b ≤ 1
+bit-most true = omega arith
+bit-most false = omega arith
+
 -- a phase is at most one of these
 pub phase-kinds : (x : Phase) → bit (isIdle x) + bit (isGathered x) + bit (isFlagged x) + bit (isBusy x) ≤ 1
-phase-kinds Phase.Idle = omega arith
-phase-kinds (Phase.Waiting p) = omega arith
-phase-kinds (Phase.Woken p v) = omega arith
-phase-kinds (Phase.Holding p v) = omega arith
-phase-kinds (Phase.BusyWriting n k) = omega arith
-phase-kinds (Phase.BusyReading n k) = omega arith
-phase-kinds (Phase.Gathered n) = omega arith
+phase-kinds x =
+    by-test (isIdle x) (λ i. rw (numbered x 0 i) (omega arith))
+    (λ i. by-test (isGathered x) (λ g. rw (numbered x 6 g) (omega arith))
+    (λ g. by-test (isWriting x) (λ w. rw (numbered x 4 w) (omega arith))
+    (λ w. by-test (isReading x) (λ r. rw (numbered x 5 r) (omega arith))
+    (λ r. rw (i, g, w, r) (omega (arith, bit-most (isFlagged x)))))))
 
 pub up-kinds : (x : Phase) → bit (isFlagged x) ≡ bit (hasTurn x) + bit (isWaiting x)
-up-kinds Phase.Idle = omega arith
-up-kinds (Phase.Waiting p) = omega arith
-up-kinds (Phase.Woken p v) = omega arith
-up-kinds (Phase.Holding p v) = omega arith
-up-kinds (Phase.BusyWriting n k) = omega arith
-up-kinds (Phase.BusyReading n k) = omega arith
-up-kinds (Phase.Gathered n) = omega arith
+up-kinds x = by-test (isWaiting x) (λ w. rw (numbered x 1 w) (omega arith)) (λ w. rw w (omega arith))
 
 pub ready-kinds : (x : Phase) → bit (isIdleOrGathered x) ≡ bit (isIdle x) + bit (isGathered x)
-ready-kinds Phase.Idle = omega arith
-ready-kinds (Phase.Waiting p) = omega arith
-ready-kinds (Phase.Woken p v) = omega arith
-ready-kinds (Phase.Holding p v) = omega arith
-ready-kinds (Phase.BusyWriting n k) = omega arith
-ready-kinds (Phase.BusyReading n k) = omega arith
-ready-kinds (Phase.Gathered n) = omega arith
+ready-kinds x = by-test (isIdle x) (λ i. rw (numbered x 0 i) (omega arith)) (λ i. rw i (omega arith))
 
 -- ---- from a test to the phase
+-- the phases with what x carries, by their numbers
+abbrev pub phasesWith : Phase → List Phase
+phasesWith x =
+    Phase.Idle ∷ Phase.Waiting (purposeIn x) ∷ Phase.Woken (purposeIn x) (placeIn x) ∷ Phase.Holding (purposeIn x) (placeIn x)
+    ∷ Phase.BusyWriting (leftIn x) (placeIn x) ∷ Phase.BusyReading (leftIn x) (placeIn x) ∷ Phase.Gathered (countIn x) ∷ []
+
+phase-is : (x : Phase) → x ≡ getD (phasesWith x) (phaseNumber x) Phase.Idle
+phase-is Phase.Idle = refl
+phase-is (Phase.Waiting p) = refl
+phase-is (Phase.Woken p v) = refl
+phase-is (Phase.Holding p v) = refl
+phase-is (Phase.BusyWriting n k) = refl
+phase-is (Phase.BusyReading n k) = refl
+phase-is (Phase.Gathered n) = refl
+
+pub numbered-is : (x : Phase) (k : ℕ) → eqb (phaseNumber x) k ≡ true → x ≡ getD (phasesWith x) k Phase.Idle
+numbered-is x k e = phase-is x ∙ ap (λ (n : ℕ). getD (phasesWith x) n Phase.Idle) (numbered x k e)
+
 pub idle-is : (x : Phase) → isIdle x ≡ true → x ≡ Phase.Idle
-idle-is Phase.Idle e = refl
-idle-is (Phase.Waiting p) e = clash (sym e)
-idle-is (Phase.Woken p v) e = clash (sym e)
-idle-is (Phase.Holding p v) e = clash (sym e)
-idle-is (Phase.BusyWriting n k) e = clash (sym e)
-idle-is (Phase.BusyReading n k) e = clash (sym e)
-idle-is (Phase.Gathered n) e = clash (sym e)
+idle-is x e = numbered-is x 0 e
 
 pub waiting-is : (x : Phase) → isFlagged x ≡ true → hasTurn x ≡ false → x ≡ Phase.Waiting (purposeIn x)
-waiting-is Phase.Idle u a = clash (sym u)
-waiting-is (Phase.Waiting p) u a = refl
-waiting-is (Phase.Woken p v) u a = clash a
-waiting-is (Phase.Holding p v) u a = clash a
-waiting-is (Phase.BusyWriting n k) u a = clash (sym u)
-waiting-is (Phase.BusyReading n k) u a = clash (sym u)
-waiting-is (Phase.Gathered n) u a = clash (sym u)
+waiting-is x u a = numbered-is x 1 (rw (a, or-false (isWaiting x)) at u)
 
 pub woken-is : (x : Phase) → isWoken x ≡ true → x ≡ Phase.Woken (purposeIn x) (placeIn x)
-woken-is Phase.Idle e = clash (sym e)
-woken-is (Phase.Waiting p) e = clash (sym e)
-woken-is (Phase.Woken p v) e = refl
-woken-is (Phase.Holding p v) e = clash (sym e)
-woken-is (Phase.BusyWriting n k) e = clash (sym e)
-woken-is (Phase.BusyReading n k) e = clash (sym e)
-woken-is (Phase.Gathered n) e = clash (sym e)
+woken-is x e = numbered-is x 2 e
 
 pub holding-is : (x : Phase) → isHolding x ≡ true → x ≡ Phase.Holding (purposeIn x) (placeIn x)
-holding-is Phase.Idle e = clash (sym e)
-holding-is (Phase.Waiting p) e = clash (sym e)
-holding-is (Phase.Woken p v) e = clash (sym e)
-holding-is (Phase.Holding p v) e = refl
-holding-is (Phase.BusyWriting n k) e = clash (sym e)
-holding-is (Phase.BusyReading n k) e = clash (sym e)
-holding-is (Phase.Gathered n) e = clash (sym e)
+holding-is x e = numbered-is x 3 e
 
 pub writing-is : (x : Phase) → isWriting x ≡ true → x ≡ Phase.BusyWriting (leftIn x) (placeIn x)
-writing-is Phase.Idle e = clash (sym e)
-writing-is (Phase.Waiting p) e = clash (sym e)
-writing-is (Phase.Woken p v) e = clash (sym e)
-writing-is (Phase.Holding p v) e = clash (sym e)
-writing-is (Phase.BusyWriting n k) e = refl
-writing-is (Phase.BusyReading n k) e = clash (sym e)
-writing-is (Phase.Gathered n) e = clash (sym e)
+writing-is x e = numbered-is x 4 e
 
 pub reading-is : (x : Phase) → isReading x ≡ true → x ≡ Phase.BusyReading (leftIn x) (placeIn x)
-reading-is Phase.Idle e = clash (sym e)
-reading-is (Phase.Waiting p) e = clash (sym e)
-reading-is (Phase.Woken p v) e = clash (sym e)
-reading-is (Phase.Holding p v) e = clash (sym e)
-reading-is (Phase.BusyWriting n k) e = clash (sym e)
-reading-is (Phase.BusyReading n k) e = refl
-reading-is (Phase.Gathered n) e = clash (sym e)
+reading-is x e = numbered-is x 5 e
 
 -- ---- lanes with no turn, and lanes that are not busy
 pub no-value : (v : Place) (x : Phase) → hasTurn x ≡ false → valueOk v x ≡ true

@@ -1,41 +1,35 @@
 -- The changes of the calls on records keep what a change keeps, and a record that is put lies within the buffer.
 use Prim.Native.Nat.{ℕ, _+_, _-_}
-use mathlib.Core.Path.{_≡_, refl, ap, _∙_}
+use mathlib.Core.Path.{_≡_, refl}
 use mathlib.Core.Bool.{Bool, true, false, cond, not}
 use mathlib.Core.List.{List}
 use native.Mathlib.Omega.{arith}
 use lib.Dec.{leb}
 use borrow.Author.Tests.{le-leb, not-false}
-use Rattle.lists.proofs.Tests.{at-test}
+use Rattle.lists.proofs.Tests.{at-test, implies-use}
 use Rattle.view.specs.View.{fits, place, recordEnd}
 use Rattle.view.specs.declared.Place.{Place}
 use Rattle.view.specs.declared.View.{View}
-use Rattle.line.specs.declared.Phase.{Phase}
-use Rattle.line.specs.Line.{holdsWhole, isGathered}
+use Rattle.line.specs.Line.{holdsWhole, isReading, isWriting, leftIn, placeIn}
+use Rattle.line.proofs.Phases.{numbered}
 use Rattle.steps.specs.declared.Answer.{Answer}
 use Rattle.steps.proofs.Keeps.{record-ends}
 use Rattle.changes.specs.Change.{Within, refusedChange}
 use Rattle.changes.specs.declared.Change.{Change}
 use Rattle.changes.specs.declared.Seen.{Seen}
-use Rattle.changes.proofs.Steps.{Regular, reading-apart, regular-kept, regular-refused, writing-apart}
-use Rattle.record_calls.specs.Records.{lookChange, putChange, readChange, readBy, storable, writeChange, writtenBy}
+use Rattle.changes.proofs.Steps.{Regular, reading-apart, regular-kept, regular-refused, writing-apart, regular-by}
+use Rattle.record_calls.specs.Records.{lookChange, putChange, readChange, storable, writeChange}
 
 module _ (s : Seen) (v : View) where
   none : Regular s (refusedChange s 13)
   none = regular-kept s (Answer.Refused 13)
 
   -- ---- 05 and 07
-  write-by : (x : Phase) → x ≡ s .phase → Regular s (writtenBy s v x)
-  write-by Phase.Idle e = none
-  write-by (Phase.Waiting q) e = none
-  write-by (Phase.Woken q k) e = none
-  write-by (Phase.Holding q k) e = none
-  write-by (Phase.BusyWriting left next) e = record { wakes = refl; gathered = writing-apart (left - 1) (place (next .0 + 1)) ∙ ap isGathered e }
-  write-by (Phase.BusyReading left next) e = none
-  write-by (Phase.Gathered n) e = none
-
   pub write-regular : Regular s (writeChange s v)
-  write-regular = write-by (s .phase) refl
+  write-regular =
+      regular-by s (isWriting (s .phase))
+      (λ w. record { wakes = refl; gathered = rw (numbered (s .phase) 4 w) (writing-apart (leftIn (s .phase) - 1) (place (placeIn (s .phase) .0 + 1))) })
+      (λ _. none)
 
   pub put-regular : (k : Place) → Regular s (putChange s v k)
   put-regular k =
@@ -44,17 +38,11 @@ module _ (s : Seen) (v : View) where
 
   -- ---- 06 and 08
   module _ (book : List ℕ) where
-    read-by : (x : Phase) → x ≡ s .phase → Regular s (readBy s v book x)
-    read-by Phase.Idle e = none
-    read-by (Phase.Waiting q) e = none
-    read-by (Phase.Woken q k) e = none
-    read-by (Phase.Holding q k) e = none
-    read-by (Phase.BusyWriting left next) e = none
-    read-by (Phase.BusyReading left next) e = record { wakes = refl; gathered = reading-apart (left - 1) (place (next .0 + 1)) ∙ ap isGathered e }
-    read-by (Phase.Gathered n) e = none
-
     pub read-regular : Regular s (readChange s v book)
-    read-regular = read-by (s .phase) refl
+    read-regular =
+        regular-by s (isReading (s .phase))
+        (λ r. record { wakes = refl; gathered = rw (numbered (s .phase) 5 r) (reading-apart (leftIn (s .phase) - 1) (place (placeIn (s .phase) .0 + 1))) })
+        (λ _. none)
 
     pub look-regular : (k : Place) → Regular s (lookChange s v book k)
     look-regular k = regular-refused s 13 (not (holdsWhole (s .phase))) (λ _. record { wakes = refl; gathered = refl })
@@ -71,17 +59,9 @@ module _ (s : Seen) (v : View) (n : ℕ) (W : Within s v n) where
   room : (k : Place) → fits v (s .capacity) k 1 ≡ true → leb (recordEnd v k) n ≡ true
   room k f = le-leb (recordEnd v k) n (omega (arith, record-ends v (s .capacity) k f, W .held))
 
-  write-fits : (x : Phase) → x ≡ s .phase → Fits (writtenBy s v x)
-  write-fits Phase.Idle e = refl
-  write-fits (Phase.Waiting q) e = refl
-  write-fits (Phase.Woken q k) e = refl
-  write-fits (Phase.Holding q k) e = refl
-  write-fits (Phase.BusyWriting left next) e = room next (rw (← e) at (W .writer))
-  write-fits (Phase.BusyReading left next) e = refl
-  write-fits (Phase.Gathered m) e = refl
-
   pub write-storable : storable (writeChange s v .answer) n ≡ true
-  write-storable = write-fits (s .phase) refl
+  write-storable =
+      at-test Fits (isWriting (s .phase)) _ _ (λ w. room (placeIn (s .phase)) (implies-use (isWriting (s .phase)) _ (W .writer) w)) (λ _. refl)
 
   pub put-storable : (k : Place) → storable (putChange s v k .answer) n ≡ true
   put-storable k =

@@ -5,6 +5,7 @@ use mathlib.Core.Bool.{true, cond, not}
 use mathlib.Core.List.{List}
 use lib.ListN.{length}
 use lib.Seq.{set-getD}
+use Rattle.lists.proofs.Tests.{by-test}
 use Rattle.view.specs.View.{fits}
 use Rattle.view.specs.declared.Place.{Place}
 use Rattle.line.specs.declared.Line.{Line}
@@ -48,13 +49,7 @@ module _ (l : Line) (book : List ℕ) (lanes-fit : l .lanes ≤ mostLanes) (ok :
     refused-13 = refused-step l book left (λ k. refl) i 13
 
     write-by : (x : Phase) → Gives l left i (writeRest (stateOf l book) i content x) (writtenBy own (l .view) x)
-    write-by Phase.Idle = refused-13
-    write-by (Phase.Waiting q) = refused-13
-    write-by (Phase.Woken q v) = refused-13
-    write-by (Phase.Holding q v) = refused-13
-    write-by (Phase.BusyWriting n next) = record { is = rw (set-getD (l .flag) i 0) }
-    write-by (Phase.BusyReading n next) = refused-13
-    write-by (Phase.Gathered n) = refused-13
+    write-by x = by-test (isWriting x) (λ w. rw w (record { is = rw (set-getD (l .flag) i 0) })) (λ w. rw w refused-13)
 
     pub write-step : callEvent (stateOf l book) (Event.Write i content) ≡ changed l (entryOf i) (laneTested seen i (writeChange seen (l .view))) (left (laneTested seen i (writeChange seen (l .view)) .answer))
     write-step =
@@ -75,13 +70,7 @@ module _ (l : Line) (book : List ℕ) (lanes-fit : l .lanes ≤ mostLanes) (ok :
   none-13 = refused-step l book (unchanged book) (λ k. refl) i 13
 
   read-by : (x : Phase) → Gives l (unchanged book) i (readRest (stateOf l book) i x) (readBy own (l .view) book x)
-  read-by Phase.Idle = none-13
-  read-by (Phase.Waiting q) = none-13
-  read-by (Phase.Woken q v) = none-13
-  read-by (Phase.Holding q v) = none-13
-  read-by (Phase.BusyWriting n next) = none-13
-  read-by (Phase.BusyReading n next) = record { is = rw (set-getD (l .flag) i 0) }
-  read-by (Phase.Gathered n) = none-13
+  read-by x = by-test (isReading x) (λ r. rw r (record { is = rw (set-getD (l .flag) i 0) })) (λ r. rw r none-13)
 
   pub read-step : callEvent (stateOf l book) (Event.Read i) ≡ changed l (entryOf i) (laneTested seen i (readChange seen (l .view) book)) book
   read-step =

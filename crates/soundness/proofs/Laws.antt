@@ -16,17 +16,12 @@ use Rattle.line.specs.Line.{flagFor, isIdle, on}
 use Rattle.line.specs.Sound.{flagsOk, pastOk}
 use Rattle.line.specs.declared.Line.{Line}
 use Rattle.line.specs.declared.Phase.{Phase}
+use Rattle.line.proofs.Phases.{numbered}
 use Rattle.lane_tests.specs.Rules.{flagIsOne}
 
 -- ---- flags that are those of the phases
 idle-flag : (x : Phase) → isIdle x ≡ true → eqb 0 (flagFor x) ≡ true
-idle-flag Phase.Idle e = refl
-idle-flag (Phase.Waiting p) e = e
-idle-flag (Phase.Woken p v) e = e
-idle-flag (Phase.Holding p v) e = e
-idle-flag (Phase.BusyWriting left next) e = refl
-idle-flag (Phase.BusyReading left next) e = refl
-idle-flag (Phase.Gathered n) e = refl
+idle-flag x e = rw (numbered x 0 e)
 
 module _ (l : Line) (ok : flagsOk l ≡ true) where
   same : l .flag ≡ map (on flagFor) (l .lane)

@@ -2,12 +2,12 @@
 use Prim.Native.Nat.{ℕ}
 use mathlib.Core.Path.{_≡_, refl, sym, ap}
 use mathlib.Core.Logic.{_⊎_, inl, inr}
-use mathlib.Core.Bool.{Bool, true, false, not, _||_}
+use mathlib.Core.Bool.{Bool, true, false, not}
 use mathlib.Core.List.{List, [], _∷_}
 use lib.Dec.{eqb, leb}
 use borrow.Author.Tests.{eq-eqb, eqb-true, not-true}
 use Rattle.lists.specs.Lists.{allPass, somePass}
-use Rattle.lists.proofs.Tests.{and-left, and-right, both, by-test, clash}
+use Rattle.lists.proofs.Tests.{and-left, and-right, both, by-test, clash, neither-left, neither-right}
 use Rattle.view.specs.View.{recordEnd}
 use Rattle.view.specs.declared.Place.{Place}
 use Rattle.line.specs.Line.{phaseAt, placeIn}
@@ -38,14 +38,6 @@ pub record First (x : State) (c : Call) (k : ℕ) : Type 0 where
   pub earlier : somePass (applying x c) (before k reasons) ≡ false
 
 -- ---- through a list of reasons
-or-left : (a b : Bool) → a || b ≡ false → a ≡ false
-or-left true b e = clash e
-or-left false b e = refl
-
-or-right : (a b : Bool) → a || b ≡ false → b ≡ false
-or-right true b e = clash e
-or-right false b e = e
-
 record FirstIn (qs : List Reason) (x : State) (c : Call) (k : ℕ) : Type 0 where
   applies : appliesIn qs k x c ≡ true
   earlier : somePass (applying x c) (before k qs) ≡ false
@@ -87,14 +79,14 @@ first-refuses (q ∷ qs) x c r k w =
     by-test (eqb (q .number) k)
     (λ t. let e = eqb-true (q .number) k t in rw (rw t at (w .applies)) (ap (λ (n : ℕ). refuse n x) e))
     (λ n. let none = rw n at (w .earlier) in
-    let f = or-left (q .applies x c) (somePass (applying x c) (before k qs)) none in
-    rw f (first-refuses qs x c r k (record { applies = rw n at (w .applies); earlier = or-right (q .applies x c) (somePass (applying x c) (before k qs)) none })))
+    let f = neither-left (q .applies x c) (somePass (applying x c) (before k qs)) none in
+    rw f (first-refuses qs x c r k (record { applies = rw n at (w .applies); earlier = neither-right (q .applies x c) (somePass (applying x c) (before k qs)) none })))
 
 -- where no reason of the list applies, none does by its number
 none-in : (qs : List Reason) (x : State) (c : Call) → somePass (applying x c) qs ≡ false → (k : ℕ) → appliesIn qs k x c ≡ false
 none-in [] x c n k = refl
 none-in (q ∷ qs) x c n k =
-    by-test (eqb (q .number) k) (λ t. rw t (or-left (q .applies x c) (somePass (applying x c) qs) n)) (λ f. rw f (none-in qs x c (or-right (q .applies x c) (somePass (applying x c) qs) n) k))
+    by-test (eqb (q .number) k) (λ t. rw t (neither-left (q .applies x c) (somePass (applying x c) qs) n)) (λ f. rw f (none-in qs x c (neither-right (q .applies x c) (somePass (applying x c) qs) n) k))
 
 pub none-applies : (x : State) (c : Call) → somePass (applying x c) reasons ≡ false → (k : ℕ) → NotApplies x c k
 none-applies x c n k = none-in reasons x c n k

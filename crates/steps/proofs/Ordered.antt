@@ -2,7 +2,7 @@
 use Prim.Native.Nat.{ℕ, zero, suc, _+_, _≤_, _<_}
 use mathlib.Core.Path.{_≡_, refl, sym, ap, _∙_}
 use mathlib.Core.Logic.{_≢_}
-use mathlib.Core.Bool.{Bool, true, false, cond, _&&_}
+use mathlib.Core.Bool.{Bool, true, false, cond, _&&_, or-false}
 use mathlib.Core.List.{List, [], _∷_, map}
 use native.Mathlib.Omega.{arith}
 use native.Mathlib.Decide.{decLt}
@@ -10,7 +10,7 @@ use lib.ListN.{getD, length, replicate}
 use lib.Dec.{eqb}
 use borrow.Author.Tests.{eqb-false, eqb-true, le-leb}
 use Rattle.lists.specs.Lists.{allPass, bit, countPass}
-use Rattle.lists.proofs.Tests.{and-both, and-left, and-right, at-test, clash, implies-from, not-zero}
+use Rattle.lists.proofs.Tests.{and-both, and-left, and-right, at-test, implies-from, not-zero, by-test}
 use Rattle.lists.proofs.Counts.{all-none, all-set, bit-zero}
 use Rattle.view.specs.View.{fits, place, viewOk}
 use Rattle.view.specs.declared.Place.{Place}
@@ -18,9 +18,9 @@ use Rattle.view.proofs.Laws.{fits-part}
 use Rattle.line.specs.declared.Phase.{Phase}
 use Rattle.line.specs.declared.Lane.{Lane}
 use Rattle.line.specs.declared.Line.{Line}
-use Rattle.line.specs.Line.{countIn, flagFor, hasTurn, idleLane, isBusy, isFlagged, isGathered, isIdleOrGathered, lane, on, phaseAt}
+use Rattle.line.specs.Line.{countIn, flagFor, hasTurn, idleLane, isBusy, isFlagged, isGathered, isIdleOrGathered, lane, on, phaseAt, isIdle}
 use Rattle.line.specs.Sound.{apart, gatheredTotal, regionEnd, regionOk, valueOk}
-use Rattle.line.proofs.Phases.{apart-idle, apart-sym, flag-down, no-value}
+use Rattle.line.proofs.Phases.{apart-idle, apart-sym, flag-down, no-value, idle-is}
 use Rattle.line.proofs.Facts.{Base, Facts, up-split}
 use Rattle.steps.specs.State.{withLanes, withPointer}
 use Rattle.steps.specs.Effects.{allEntered, entered, started, startedAt, writing}
@@ -59,13 +59,8 @@ starts k [] = []
 starts k (x ∷ xs) = lane (start (countIn (x .phase)) k) ∷ starts (k + countIn (x .phase)) xs
 
 ready-start : (k : ℕ) (y : Phase) → isIdleOrGathered y ≡ true → startedAt k y ≡ start (countIn y) k
-ready-start k Phase.Idle e = refl
-ready-start k (Phase.Waiting p) e = clash (sym e)
-ready-start k (Phase.Woken p v) e = clash (sym e)
-ready-start k (Phase.Holding p v) e = clash (sym e)
-ready-start k (Phase.BusyWriting n v) e = clash (sym e)
-ready-start k (Phase.BusyReading n v) e = clash (sym e)
-ready-start k (Phase.Gathered n) e = refl
+ready-start k y e =
+    by-test (isGathered y) (λ g. rw g) (λ g. rw (idle-is y (rw (g, or-false (isIdle y)) at e)))
 
 pub started-starts : (k : ℕ) (ls : List Lane) → allPass (on isIdleOrGathered) ls ≡ true → started k ls ≡ starts k ls
 unfolding started starts

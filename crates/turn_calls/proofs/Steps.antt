@@ -1,11 +1,12 @@
 -- Each change of a call of the waitlist is the step of document 01.
 use Prim.Native.Nat.{ℕ, _+_, _≤_}
-use mathlib.Core.Path.{_≡_, refl, _∙_}
+use mathlib.Core.Path.{_≡_, refl, _∙_, subst, sym}
 use mathlib.Core.Bool.{true, cond, not, _&&_}
 use mathlib.Core.List.{List}
 use lib.Dec.{eqb, ltb}
 use lib.ListN.{length, set}
 use lib.Seq.{set-getD}
+use Rattle.lists.proofs.Tests.{by-test}
 use Rattle.lists.specs.Lists.{allPass, somePass}
 use Rattle.view.specs.View.{fits}
 use Rattle.view.specs.declared.Place.{Place}
@@ -13,8 +14,9 @@ use Rattle.line.specs.declared.Line.{Line}
 use Rattle.line.specs.declared.Phase.{Phase}
 use Rattle.line.specs.declared.Purpose.{Purpose}
 use Rattle.limits.specs.Limits.{mostLanes, mostPointer}
-use Rattle.line.specs.Line.{holdsShared, holdsWhole, isGathered, isIdle, isSharedRead, isSharedWrite, isWaiting, isWoken, on, phaseAt, placeIn, purposeIn}
+use Rattle.line.specs.Line.{holdsShared, holdsWhole, isGathered, isIdle, isSharedRead, isSharedWrite, isWaiting, isWoken, on, phaseAt, placeIn, purposeIn, isHolding}
 use Rattle.line.specs.Sound.{sound}
+use Rattle.line.proofs.Phases.{holding-is, numbered}
 use Rattle.waitlist.specs.NextLane.{nextLane}
 use Rattle.event.specs.declared.Event.{Event}
 use Rattle.steps.specs.Effects.{purposeOf, reading, receiveStep, takeStep, wantStep, writing}
@@ -62,13 +64,9 @@ module _ (l : Line) (book : List ℕ) (lanes-fit : l .lanes ≤ mostLanes) (ok :
   refused-13 = refused-step l book (unchanged book) (λ k. refl) i 13
 
   receive-by : (x : Phase) → Gives l (unchanged book) i (receiveRest (stateOf l book) i x) (receivedBy own x)
-  receive-by Phase.Idle = refused-13
-  receive-by (Phase.Waiting q) = refused-step l book (unchanged book) (λ k. refl) i 14
-  receive-by (Phase.Woken q v) = record { is = rw (set-getD (l .flag) i 0) }
-  receive-by (Phase.Holding q v) = refused-13
-  receive-by (Phase.BusyWriting left next) = refused-13
-  receive-by (Phase.BusyReading left next) = refused-13
-  receive-by (Phase.Gathered n) = refused-13
+  receive-by x =
+      by-test (isWoken x) (λ w. rw (numbered x 2 w) (record { is = rw (set-getD (l .flag) i 0) }))
+      (λ w. by-test (isWaiting x) (λ a. rw (w, a) (refused-step l book (unchanged book) (λ k. refl) i 14)) (λ a. rw (w, a) refused-13))
 
   pub receive-step : callEvent (stateOf l book) (Event.Receive i) ≡ changed l (entryOf i) (laneTested seen i (receiveChange seen)) book
   receive-step =
@@ -83,13 +81,10 @@ module _ (l : Line) (book : List ℕ) (lanes-fit : l .lanes ≤ mostLanes) (ok :
     take-held Purpose.WholeBook v = refused-13
 
     take-by : (x : Phase) → Gives l (unchanged book) i (takeRest (stateOf l book) i c x) (takenFrom own (l .view) (l .flag) i c x)
-    take-by Phase.Idle = refused-13
-    take-by (Phase.Waiting q) = refused-13
-    take-by (Phase.Woken q v) = refused-13
-    take-by (Phase.Holding q v) = take-held q v
-    take-by (Phase.BusyWriting left next) = refused-13
-    take-by (Phase.BusyReading left next) = refused-13
-    take-by (Phase.Gathered n) = refused-13
+    take-by x =
+        by-test (isHolding x)
+        (λ h. subst (λ (y : Phase). Gives l (unchanged book) i (takeRest (stateOf l book) i c y) (takenFrom own (l .view) (l .flag) i c y)) (sym (holding-is x h)) (take-held (purposeIn x) (placeIn x)))
+        (λ h. rw h refused-13)
 
     pub take-step : callEvent (stateOf l book) (Event.Take i c) ≡ changed l (entryOf i) (laneTested seen i (takeChange seen (l .view) (l .flag) i c)) book
     take-step =
