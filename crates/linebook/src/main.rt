@@ -1,4 +1,4 @@
-// linebook: a sheet from standard input, its text to standard output; what it prints is decided by `linebook_text::print_sheet`.
+// linebook: a sheet from standard input, its text to standard output, as `linebook_text::print_sheet` has it; with the argument `version`, the library's.
 ghost use Prim.Native.Nat.{_+_, _≤_};
 ghost use mathlib.Core.Path.{_≡_};
 ghost use lib.ListN.{length};

@@ -1,5 +1,5 @@
 // sheet: the papers' notation from standard input to a sheet's bytes on standard output; with the argument `show`, a sheet's bytes
-// to one readable line an event.
+// to one readable line an event; with `version`, the library's version.
 ghost use Prim.Native.Nat.{_+_, _≤_};
 ghost use mathlib.Core.Path.{_≡_};
 ghost use lib.ListN.{length};

@@ -9,8 +9,8 @@ use borrow.Author.Needs.{needs}
 use Rattle.soundness.proofs.numbers.open_numbers.Statement.{statement}
 use Rattle.soundness.proofs.numbers.open_numbers.Tie as tie
 
-lanes-few : (c : tie.Else1) → leb (c .before .before .before .before .args .line .lanes) mostLanes ≡ true
-lanes-few c =
+lanes-fit : (c : tie.Else1) → leb (c .before .before .before .before .args .line .lanes) mostLanes ≡ true
+lanes-fit c =
     let h = rw (c .before .index .ensures) at (c .if1 .left) in
     le-leb _ mostLanes h
 
@@ -20,7 +20,7 @@ line-at c = c .before .before .before .before .before .before .before .before .a
 -- the tests of N and of the capacity pass
 of-capacity : (c : tie.Else3) → (leb (line-at c .lanes) mostLanes ≡ true) × (leb 8 (line-at c .capacity) ≡ true) × (leb (line-at c .capacity) 65536 ≡ true)
 of-capacity c =
-    (lanes-few (c .before .before .before .before), le-leb 8 _ (c .before .before .if2 .left), le-leb _ 65536 (c .if3 .left))
+    (lanes-fit (c .before .before .before .before), le-leb 8 _ (c .before .before .if2 .left), le-leb _ 65536 (c .if3 .left))
 
 returns : tie.Need-returns
 returns c =
@@ -28,12 +28,12 @@ returns c =
     rw (lt-leb _ mostLanes h)
 
 returns-2 : tie.Need-returns-2
-returns-2 c = rw (lanes-few (c .before .before), lt-leb 8 _ (c .if2 .taken))
+returns-2 c = rw (lanes-fit (c .before .before), lt-leb 8 _ (c .if2 .taken))
 
 returns-3 : tie.Need-returns-3
 returns-3 c =
     let e2 = c .before .before in
-    rw (lanes-few (e2 .before .before), le-leb 8 _ (e2 .if2 .left), lt-leb _ 65536 (c .if3 .taken))
+    rw (lanes-fit (e2 .before .before), le-leb 8 _ (e2 .if2 .left), lt-leb _ 65536 (c .if3 .taken))
 
 returns-4 : tie.Need-returns-4
 returns-4 c = rw (of-capacity (c .before .before) .0, of-capacity (c .before .before) .1, of-capacity (c .before .before) .2, lt-leb _ _ (c .if4 .taken))
