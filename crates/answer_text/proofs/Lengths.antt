@@ -19,7 +19,7 @@ use Rattle.printout.specs.Print.{answerLine, answerWords, decimal, decimalIn, e
 use Rattle.printout.specs.Text.{ascii}
 use Rattle.number_text.proofs.Decimal.{few-digits}
 use Rattle.number_text.proofs.Hex.{hex-length}
-use Rattle.answer_text.specs.Printing.{mostLine}
+use Rattle.answer_text.specs.Printing.{mostLine, mostValues}
 use Rattle.word_text.proofs.Words.{one-length, region-length, two-length, wakes-length}
 use Rattle.answer_text.proofs.Answers.{answer-length}
 
@@ -44,7 +44,7 @@ wakes-short (Wakes.Lane i) v g =
     omega (arith, one-length (ascii "wakes") (decimal i), digits-8 i (search f))
 wakes-short Wakes.None v g = omega arith
 
-values-short : (a : Answer) (v : Val) → Is (row answer.the-type) a (v ∷ []) → length (words (answerWords a)) ≤ 35
+pub values-short : (a : Answer) (v : Val) → Is (row answer.the-type) a (v ∷ []) → length (words (answerWords a)) ≤ mostValues
 unfolding answerWords words
 values-short (Answer.Open lanes capacity) v g =
     let f = owed answer.the-type answer-laws.the-laws (Answer.Open lanes capacity) (v ∷ []) g in
@@ -86,6 +86,10 @@ values-short (Answer.Seek pointer) v g =
 values-short (Answer.Refused number) v g =
     let f = owed answer.the-type answer-laws.the-laws (Answer.Refused number) (v ∷ []) g in
     omega (arith, one-length (ascii "refused") (decimal number), digits-8 number (search f))
+
+pub refused-short : (number : ℕ) → number < 256 → length (words (answerWords (Answer.Refused number))) ≤ mostValues
+unfolding answerWords words
+refused-short number h = omega (arith, one-length (ascii "refused") (decimal number), digits-8 number h)
 
 -- ---- the lines
 pub line-short : (number : ℕ) (a : Answer) (v : Val) → number < 18446744073709551616 → Is (row answer.the-type) a (v ∷ []) → length (answerLine number a) ≤ mostLine

@@ -13,6 +13,10 @@ use Rattle.answer_text.specs.declared.Printed.{Printed}
 abbrev pub mostLine : ℕ
 mostLine = 56
 
+-- the longest line past its number and the blank; that no answer's is longer: answer_text/Lengths: values-short
+abbrev pub mostValues : ℕ
+mostValues = 35
+
 -- a buffer of the longest line takes every line
 abbrev pub printingOf : List ℕ → ℕ → Answer → Printed
 printingOf out number answer = cond (ltb (length out) mostLine) Printed.TooShort (Printed.Length (length (answerLine number answer)))

@@ -3,6 +3,7 @@ use steps::Answer;
 use view::Place;
 use word_text::BLANK;
 use word_text::LINE_END;
+use word_text::put_counted;
 use word_text::put_freed;
 use word_text::put_number;
 use word_text::put_one;
@@ -16,6 +17,7 @@ use word_text::wide32;
 ghost use mathlib.Core.Path.{_≡_};
 ghost use Prim.Native.Nat.{_+_, _≤_};
 ghost use lib.ListN.{length};
+ghost use Rattle.steps.specs.declared.Answer.{Answer};
 ghost use Rattle.printout.specs.Print.{answerLine, answerWords, endLineOf, words};
 ghost use Rattle.number_text.specs.Stored.{Stored};
 ghost use Rattle.answer_text.specs.Printing.{mostLine, printedTo, printingOf};
@@ -30,7 +32,7 @@ pub enum Printed {
 }
 
 // The line of an answer from its word on.
-fn put_values(out: &mut [u8], at: usize, answer: Answer) -> usize
+pub fn put_values(out: &mut [u8], at: usize, answer: Answer) -> usize
     requires { ⌜ at + length (words (answerWords answer)) ≤ length (now out) ⌝ }
     ensures { λ r. ⌜ Stored (words (answerWords answer)) (now (out .entry)) at (now (out .exit)) r ⌝ }
 {
@@ -57,6 +59,14 @@ fn put_values(out: &mut [u8], at: usize, answer: Answer) -> usize
         Answer::Seek { pointer } => put_one(out, at, b"seek", wide32(pointer.0)),
         Answer::Refused { number } => put_one(out, at, b"refused", wide8(number)),
     }
+}
+
+// The line of a refusal from its word on.
+pub fn put_refused(out: &mut [u8], at: usize, number: u8) -> usize
+    requires { ⌜ at + length (words (answerWords (Answer.Refused number))) ≤ length (now out) ⌝ }
+    ensures { λ r. ⌜ Stored (words (answerWords (Answer.Refused number))) (now (out .entry)) at (now (out .exit)) r ⌝ }
+{
+    put_counted(out, at, b"refused", wide8(number))
 }
 
 // The line of an answer from an index on: the event's number, the answer, its values. The index after it.

@@ -2,3 +2,4 @@
 pub mod Arms
 pub mod Steps
 pub mod Within
+pub mod Counts

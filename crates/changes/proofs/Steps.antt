@@ -1,6 +1,6 @@
 -- How a step of document 01 is a change: the refusals, the tests of 4 and 8, and what every change of a lane's call keeps.
 use Prim.Native.Nat.{ℕ, zero, suc, _≤_, _<_}
-use mathlib.Core.Path.{_≡_, refl, _∙_, subst}
+use mathlib.Core.Path.{_≡_, refl, sym, _∙_, subst}
 use mathlib.Core.Bool.{Bool, true, false, cond}
 use mathlib.Core.List.{List, [], _∷_}
 use native.Mathlib.Omega.{arith}
@@ -9,12 +9,12 @@ use lib.ListN.{getD, length, set}
 use lib.Seq.{set-getD}
 use borrow.Author.Tests.{leb-false, lt-ltb}
 use Rattle.lists.specs.Lists.{somePass}
-use Rattle.lists.proofs.Tests.{at-test, by-test}
+use Rattle.lists.proofs.Tests.{at-test, by-test, clash}
 use Rattle.line.specs.declared.Lane.{Lane}
 use Rattle.line.specs.declared.Line.{Line}
 use Rattle.line.specs.declared.Phase.{Phase}
 use Rattle.limits.specs.Limits.{mostLanes}
-use Rattle.line.specs.Line.{idleLane, isGathered, lane, on, isWaiting}
+use Rattle.line.specs.Line.{countIn, idleLane, isGathered, lane, on, isWaiting}
 use Rattle.line.specs.Sound.{sound}
 use Rattle.line.proofs.Phases.{numbered}
 use Rattle.view.specs.declared.Place.{Place}
@@ -27,7 +27,7 @@ use Rattle.steps.specs.Meets.{stateOf}
 use Rattle.steps.specs.State.{Result}
 use Rattle.steps.specs.Step.{refuse}
 use Rattle.steps.proofs.Chains as chains
-use Rattle.changes.specs.Change.{applied, laneTested, changed, entryOf, keptChange, refusedChange, seenOf, wakesIn}
+use Rattle.changes.specs.Change.{applied, laneTested, changed, entryOf, keptChange, missingLane, refusedChange, seenOf, wakesIn}
 use Rattle.changes.specs.declared.Change.{Change}
 use Rattle.changes.specs.declared.Seen.{Seen}
 
@@ -73,14 +73,47 @@ module _ (l : Line) (book : List ℕ) (left : Answer → List ℕ) (same : (k : 
       (λ below. let h : i < l .lanes = leb-false (l .lanes) i below in
       rw (some, below) (subst (λ (j : ℕ). Gives l left j rest (c j)) (entry-is i (omega arith)) (accepted h)))))
 
--- ---- what every change keeps: the lane that is woken is one of the arrays, and the call's own lane is gathered after it where it was before
+-- the same tests by their number
+module _ (s : Seen) (i : ℕ) (c : Change) where
+  pub lane-missing : (missingLane (s .lanes) i ≡ 0 → ⊥) → laneTested s i c ≡ refusedChange s (missingLane (s .lanes) i)
+  lane-missing some =
+      by-test (eqb (s .lanes) 0) (λ none. rw none)
+      (λ opened. by-test (leb (s .lanes) i) (λ past. rw (opened, past)) (λ below. absurd (some (rw (opened, below)))))
+
+  pub lane-there : missingLane (s .lanes) i ≡ 0 → laneTested s i c ≡ c
+  lane-there none =
+      by-test (eqb (s .lanes) 0) (λ z. let four : 4 ≡ 0 = rw z at none in absurd (omega (arith, four)))
+      (λ opened. by-test (leb (s .lanes) i) (λ past. let eight : 8 ≡ 0 = rw (opened, past) at none in absurd (omega (arith, eight))) (λ below. rw (opened, below)))
+
+pub lane-below : (lanes i : ℕ) → missingLane lanes i ≡ 0 → i < lanes
+lane-below lanes i none =
+    by-test (eqb lanes 0) (λ z. let four : 4 ≡ 0 = rw z at none in absurd (omega (arith, four)))
+    (λ opened. by-test (leb lanes i) (λ past. let eight : 8 ≡ 0 = rw (opened, past) at none in absurd (omega (arith, eight))) (λ below. leb-false lanes i below))
+
+-- ---- what every change keeps: the lane that is woken is one of the arrays, and the call's own lane is gathered after it, with as many records, where it was before
 pub record Regular (s : Seen) (c : Change) : Type 0 where
   pub wakes : wakesIn (c .wakes) ≡ true
   pub gathered : isGathered (c .phase) ≡ isGathered (s .phase)
+  pub count : countIn (c .phase) ≡ countIn (s .phase)
+
+-- a lane that is not gathered has no records in an ordered call
+uncounted : (x : Phase) → isGathered x ≡ false → countIn x ≡ 0
+uncounted Phase.Idle e = refl
+uncounted (Phase.Waiting p) e = refl
+uncounted (Phase.Woken p v) e = refl
+uncounted (Phase.Holding p v) e = refl
+uncounted (Phase.BusyWriting left next) e = refl
+uncounted (Phase.BusyReading left next) e = refl
+uncounted (Phase.Gathered n) e = clash e
 
 module _ (s : Seen) where
   pub regular-kept : (a : Answer) → Regular s (keptChange s a)
-  regular-kept a = record { wakes = refl; gathered = refl }
+  regular-kept a = record { wakes = refl; gathered = refl; count = refl }
+
+  -- a change of a lane that is not gathered to a phase that is not
+  pub regular-apart : {c : Change} → wakesIn (c .wakes) ≡ true → isGathered (c .phase) ≡ false → false ≡ isGathered (s .phase) → Regular s c
+  regular-apart {c} wakes after before =
+      record { wakes = wakes; gathered = after ∙ before; count = uncounted (c .phase) after ∙ sym (uncounted (s .phase) (sym before)) }
 
   pub regular-by : (b : Bool) {c d : Change} → (b ≡ true → Regular s c) → (b ≡ false → Regular s d) → Regular s (cond b c d)
   regular-by b {c} {d} f g = at-test (Regular s) b c d f g

@@ -1,14 +1,17 @@
 -- A lane's call as a change: what it sees, and the line after it. Tied to `callEvent` by lane_calls/Steps: decided-step, to `sound` by changes/Within: within-of.
-use Prim.Native.Nat.{ℕ, _%_, _≤_}
+use Prim.Native.Nat.{ℕ, _+_, _-_, _%_, _≤_}
 use mathlib.Core.Bool.{Bool, true, cond}
 use mathlib.Core.List.{List}
 use lib.Dec.{eqb, leb, ltb}
 use lib.ListN.{getD}
 use mathlib.Core.Path.{_≡_}
-use Rattle.lists.specs.Lists.{somePass, implies}
+use Rattle.lists.specs.Lists.{bit, implies, somePass}
 use Rattle.view.specs.View.{fits}
 use Rattle.view.specs.declared.View.{View}
 use Rattle.line.specs.declared.Line.{Line}
+use Rattle.line.specs.declared.Phase.{Phase}
+use Rattle.lane_tests.specs.Rules.{notIdle}
+use Rattle.lane_tests.specs.declared.tallies.LaneCounts.{LaneCounts}
 use Rattle.limits.specs.Limits.{mostLanes, mostPointer}
 use Rattle.line.specs.Line.{isGathered, isWriting, on, phaseAt, placeIn}
 use Rattle.waitlist.specs.declared.Wakes.{Wakes}
@@ -43,6 +46,10 @@ keptChange s a = record { answer = a; phase = s .phase; flag = s .flag; pointer 
 abbrev pub refusedChange : Seen → ℕ → Change
 refusedChange s k = keptChange s (Answer.Refused k)
 
+-- 4 before the line is open, 8 where it has no lane i, and else 0
+abbrev pub missingLane : ℕ → ℕ → ℕ
+missingLane lanes i = cond (eqb lanes 0) 4 (cond (leb lanes i) 8 0)
+
 -- the tests of a call that names a lane: 4 and 8
 abbrev pub laneTested : Seen → ℕ → Change → Change
 laneTested s i c = cond (eqb (s .lanes) 0) (refusedChange s 4) (cond (leb (s .lanes) i) (refusedChange s 8) c)
@@ -63,6 +70,16 @@ outcomeOf l i c = record { line = applied l i c; answer = c .answer }
 -- the answer, the line and the book that a change gives
 abbrev pub changed : Line → ℕ → Change → List ℕ → Result
 changed l i c book = leaves (c .answer) (applied l i c) book
+
+-- the counts of all lanes once one that sees s makes change c, neither before nor after gathered
+abbrev pub countsAfter : LaneCounts → Seen → Change → LaneCounts
+countsAfter counts s c =
+    record { active = counts .active + bit (notIdle (c .phase)) - bit (notIdle (s .phase)); gathered = counts .gathered; total = counts .total }
+
+-- a lane with phase x is one of those counted, of which there are no more than a line can have
+pub record Counted (counts : LaneCounts) (x : Phase) : Type 0 where
+  pub own : bit (notIdle x) ≤ counts .active
+  pub few : counts .active ≤ mostLanes
 
 -- what a sound line with a buffer of n bytes gives a lane's call: its numbers are in their ranges, and a busy writer's next record fits
 pub record Within (s : Seen) (v : View) (n : ℕ) : Type 0 where

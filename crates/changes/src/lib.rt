@@ -3,7 +3,7 @@ ghost use Prim.Native.Nat.{_<_};
 ghost use mathlib.Core.Bool.{true};
 ghost use mathlib.Core.Path.{_≡_};
 ghost use Rattle.limits.specs.Limits.{mostLanes};
-ghost use Rattle.changes.specs.Change.{entryOf, keptChange, outcomeOf, refusedChange, seenOf, wakesIn};
+ghost use Rattle.changes.specs.Change.{entryOf, keptChange, missingLane, outcomeOf, refusedChange, seenOf, wakesIn};
 use lane_tests::tallies::any_gathered;
 use limits::MOST_LANES;
 use line::Lane;
@@ -58,6 +58,19 @@ pub fn refuse(seen: Seen, number: u8) -> Change
     ensures { λ r. ⌜ r ≡ refusedChange seen number ⌝ }
 {
     keep(seen, Answer::Refused { number })
+}
+
+// The tests that come first in any call of a lane: 4 before the line is open, 8 where it has no such lane, and else 0.
+pub fn missing_lane(lanes: u8, lane: u8) -> u8
+    ensures { λ r. ⌜ r ≡ missingLane lanes lane ⌝ }
+{
+    if lanes == 0 {
+        return 4;
+    }
+    if lanes <= lane {
+        return 8;
+    }
+    0
 }
 
 // The entry of a lane's number in the arrays: the number itself where a line can have such a lane, and else another entry.

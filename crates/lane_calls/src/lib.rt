@@ -1,13 +1,35 @@
 // The calls 02 to 09, which change one lane, the line's numbers and the lane that is woken, each as a change; used by the calls on a line and by the run of a sheet.
+ghost use mathlib.Core.Path.{_≡_};
 ghost use lib.ListN.{length};
+ghost use Rattle.view.specs.View.{Positioned};
+ghost use Rattle.line.specs.Line.{placeIn};
 ghost use Rattle.changes.specs.Change.{Within};
+ghost use Rattle.turn_calls.specs.Turns.{takeFits};
 ghost use Rattle.lane_calls.specs.Decided.{Decision, decidedChange, decidedAt};
 use changes::Change;
 use changes::Seen;
+use changes::missing_lane;
 use changes::refuse;
 use limits::MOST_LANES;
 use scopes::LaneCall;
+use view::Position;
 use view::View;
+
+// Whether the records of a take fit from the place that the lane holds.
+fn take_fits(seen: Seen, view: View, count: u16) -> bool
+    ensures { λ r. ⌜ r ≡ takeFits view seen count ⌝ }
+{
+    let phase = seen.phase;
+    view.fits(seen.capacity, phase_tests::place_in(phase), count as u32)
+}
+
+// Where the next record of a busy lane stands.
+fn next_position(seen: Seen, view: View) -> Position
+    ensures { λ r. ⌜ Positioned view (placeIn (seen .phase)) r ⌝ }
+{
+    let phase = seen.phase;
+    view.position(phase_tests::place_in(phase))
+}
 
 // What a lane's call changes past the tests of its lane; a record that is put is stored in the book.
 fn decide_at(
@@ -24,21 +46,21 @@ fn decide_at(
     match call {
         LaneCall::Want { purpose } => turn_calls::want(seen, flags, lane, purpose),
         LaneCall::Receive => turn_calls::receive(seen),
-        LaneCall::Take { count } => turn_calls::take(seen, view, flags, lane, count),
+        LaneCall::Take { count } => turn_calls::take(seen, take_fits(seen, view, count), flags, lane, count),
         LaneCall::Write { content } => {
-            let change = record_calls::write(seen, view);
+            let change = record_calls::write(seen, next_position(seen, view));
             let answer = change.answer;
             record_calls::store(book, answer, content);
             change
         }
-        LaneCall::Read => record_calls::read(seen, view, book),
+        LaneCall::Read => record_calls::read(seen, next_position(seen, view), book),
         LaneCall::Put { place, content } => {
-            let change = record_calls::put(seen, view, place);
+            let change = record_calls::put(seen, view.position(place));
             let answer = change.answer;
             record_calls::store(book, answer, content);
             change
         }
-        LaneCall::Look { place } => record_calls::look(seen, view, book, place),
+        LaneCall::Look { place } => record_calls::look(seen, view.position(place), book),
         LaneCall::Free => turn_calls::free(seen, flags, lane),
     }
 }
@@ -55,11 +77,9 @@ pub fn decide(
     requires { ⌜ Within seen view (length (now book)) ⌝ }
     ensures { λ r. ⌜ Decision (decidedChange seen lane view (now (flags .entry)) (now (book .entry)) call) call (now (book .entry)) r (now (book .exit)) ⌝ }
 {
-    if seen.lanes == 0 {
-        return refuse(seen, 4);
-    }
-    if seen.lanes <= lane {
-        return refuse(seen, 8);
+    let missing = missing_lane(seen.lanes, lane);
+    if missing != 0 {
+        return refuse(seen, missing);
     }
     decide_at(seen, lane, view, flags, book, call)
 }

@@ -1,2 +1,3 @@
--- The laws that this crate's loops stand on.
+-- The laws that this crate's loops stand on, and those of the counts.
 pub mod Flags
+pub mod Counts

@@ -1,5 +1,5 @@
--- The rules of a single lane by their names, and the counts over all lanes. Tied to `sound` by the contract of soundness::is_sound.
-use mathlib.Core.Bool.{Bool}
+-- The rules of a single lane by their names, and the counts over all lanes. Tied to `sound` by the contract of soundness::is_sound, to `callEvent` by ordered_calls/Steps: enter-step.
+use mathlib.Core.Bool.{Bool, not}
 use mathlib.Core.List.{List}
 use lib.Dec.{eqb}
 use Rattle.lists.specs.Lists.{countPass}
@@ -9,6 +9,7 @@ use Rattle.line.specs.declared.Phase.{Phase}
 use Rattle.line.specs.declared.Lane.{Lane}
 use Rattle.line.specs.declared.Line.{Line}
 use Rattle.lane_tests.specs.declared.rules.Rule.{Rule}
+use Rattle.lane_tests.specs.declared.tallies.LaneCounts.{LaneCounts}
 use Rattle.lane_tests.specs.declared.tallies.Tally.{Tally}
 
 abbrev pub ruleOf : Rule → Line → Phase → Bool
@@ -28,3 +29,9 @@ tallyOf ls =
       gathered = countPass (on isGathered) ls;
       total = gatheredTotal ls;
     }
+
+abbrev pub notIdle : Phase → Bool
+notIdle x = not (isIdle x)
+
+abbrev pub countsOf : List Lane → LaneCounts
+countsOf ls = record { active = countPass (on notIdle) ls; gathered = countPass (on isGathered) ls; total = gatheredTotal ls }

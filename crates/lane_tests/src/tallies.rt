@@ -6,7 +6,7 @@ ghost use lib.ListN.{drop};
 ghost use Rattle.lists.specs.Lists.{allPass, somePass, bit, pairwise, sameNumbers};
 ghost use Rattle.line.specs.Line.{flagFor, isGathered, on};
 ghost use Rattle.line.specs.Sound.{apart, apartLanes};
-ghost use Rattle.lane_tests.specs.Rules.{tallyOf};
+ghost use Rattle.lane_tests.specs.Rules.{countsOf, tallyOf};
 use crate::rules;
 use limits::MOST_LANES;
 use line::Lane;
@@ -17,6 +17,13 @@ pub struct Tally {
     pub flagged: usize,
     pub turns: usize,
     pub gathered: usize,
+    pub total: u32,
+}
+
+// What decides an enter: how many lanes are not idle, how many are gathered, and the records that these have in all.
+pub struct LaneCounts {
+    pub active: u32,
+    pub gathered: u32,
     pub total: u32,
 }
 
@@ -51,6 +58,29 @@ pub fn tally_of(lane: [Lane; MOST_LANES]) -> Tally
     Tally {
         flagged,
         turns,
+        gathered,
+        total,
+    }
+}
+
+// Counts the lanes that are not idle, the gathered ones and their records, in one pass.
+pub fn counts_of(lane: [Lane; MOST_LANES]) -> LaneCounts
+    ensures { λ r. ⌜ r ≡ countsOf lane ⌝ }
+{
+    let mut active: u32 = 0;
+    let mut gathered: u32 = 0;
+    let mut total: u32 = 0;
+    let mut i: usize = 0;
+    while i < MOST_LANES {
+        let l = lane[i];
+        let x = l.phase;
+        active += one(!phase_tests::is_idle(x)) as u32;
+        gathered += one(phase_tests::is_gathered(x)) as u32;
+        total += phase_tests::count_in(x) as u32;
+        i += 1;
+    }
+    LaneCounts {
+        active,
         gathered,
         total,
     }

@@ -6,9 +6,47 @@ ghost use Rattle.line.specs.Sound.{sound};
 ghost use Rattle.scopes.specs.Scope.{lineEvent};
 ghost use Rattle.steps.specs.Meets.{Meets, stateOf};
 ghost use Rattle.steps.specs.Step.{callEvent};
+ghost use Rattle.line_calls.specs.Refusal.{lineRefusal};
 use line::Line;
 use scopes::LineCall;
 use steps::Outcome;
+use view::Place;
+use view::View;
+
+// What refuses 01, 0B or 0C, from the numbers of the line and whether all its lanes are idle; 0 for nothing, and for an enter, which `ordered_calls::admit` decides.
+pub fn refusal_of(
+    call: LineCall,
+    lanes: u8,
+    capacity: u32,
+    size: u32,
+    pointer: Place,
+    view: View,
+    idle: bool,
+    buffer: usize,
+) -> u8
+    ensures { λ r. ⌜ r ≡ lineRefusal call lanes capacity size pointer view idle buffer ⌝ }
+{
+    let own = lanes;
+    let held = capacity;
+    match call {
+        LineCall::Open { lanes, capacity } => {
+            setup_calls::open_refusal(own, lanes, capacity, buffer)
+        }
+        LineCall::Enter { .. } => 0,
+        LineCall::View {
+            displacement,
+            extent,
+            used,
+            blocks,
+        } => {
+            let asked = setup_calls::view_of(displacement, extent, used, blocks);
+            setup_calls::view_refusal(own, held, asked, idle)
+        }
+        LineCall::Seek { whence, offset } => {
+            setup_calls::seek_refusal(own, size, pointer, view, whence, offset, idle)
+        }
+    }
+}
 
 // A call on the whole line.
 pub fn call_line(line: Line, book: &mut [u8], call: LineCall) -> Outcome

@@ -1,20 +1,19 @@
 -- The steps of an entry from the values that the function computes.
 use Prim.Native.Nat.{ℕ, _+_, _≤_, _<_}
-use mathlib.Core.Path.{_≡_, refl, _∙_}
-use mathlib.Core.Bool.{true, false}
+use mathlib.Core.Path.{_≡_, refl, sym, ap, _∙_}
+use mathlib.Core.Bool.{Bool, true}
 use mathlib.Core.List.{List}
 use native.Mathlib.Omega.{arith}
 use lib.ListN.{length}
 use lib.Dec.{eqb}
-use Rattle.lists.specs.Lists.{allPass, countPass}
-use Rattle.lists.proofs.Tests.{by-test}
 use Rattle.view.specs.View.{fits}
-use Rattle.view.proofs.Laws.{fits-low}
+use Rattle.limits.specs.Limits.{mostLanes, mostPointer}
+use Rattle.lane_tests.specs.declared.tallies.LaneCounts.{LaneCounts}
+use Rattle.lane_tests.specs.Rules.{countsOf}
+use Rattle.lane_tests.proofs.Counts.{gathered-most}
+use Rattle.line.specs.Line.{Shaped, phaseAt}
 use Rattle.line.specs.declared.Line.{Line}
-use Rattle.limits.specs.Limits.{mostPointer}
-use Rattle.line.specs.Line.{Shaped, isGathered, isIdle, isIdleOrGathered, on, phaseAt}
-use Rattle.line.specs.Sound.{gatheredTotal, sound}
-use Rattle.line.proofs.Facts.{good-of, when-open}
+use Rattle.line.specs.Sound.{sound}
 use Rattle.waitlist.specs.NextLane.{nextLane}
 use Rattle.event.specs.declared.Event.{Event}
 use Rattle.steps.specs.Effects.{entered}
@@ -23,47 +22,45 @@ use Rattle.steps.specs.Step.{callEvent}
 use Rattle.steps.specs.declared.Outcome.{Outcome}
 use Rattle.steps.proofs.Chains.{enter-chain}
 use Rattle.refuse.specs.Refused.{refusedOutcome}
-use Rattle.refuse.proofs.First.{at-lane, fails, meets-as, meets-refused, passes, refused-4, refused-8}
-use Rattle.ordered_calls.specs.Settled.{settled}
+use Rattle.refuse.proofs.First.{meets-as, refused-4, refused-8}
+use Rattle.ordered_calls.specs.declared.Entered.{Entered}
+use Rattle.ordered_calls.specs.Settled.{isAccepted, admitted, enterOf, settled, withBook}
+use Rattle.ordered_calls.proofs.Steps.{enter-reach, enter-step, total-low}
 
-module _ (l : Line) (book : List ℕ) (shape : Shaped l) (ok : sound l (length book) ≡ true) (i c : ℕ) where
+meets-with : (book : List ℕ) {o p : Outcome} → o ≡ p → Meets (withBook p book) o book
+meets-with book e = record { answer = ap (λ (x : Outcome). x .answer) e; line = ap (λ (x : Outcome). x .line) e; book = refl }
+
+module _ (l : Line) (book : List ℕ) (ok : sound l (length book) ≡ true) (i c : ℕ) where
   pub unopened-refused : (o : Outcome) → l .lanes ≡ 0 → o ≡ refusedOutcome l 4 → Meets (callEvent (stateOf l book) (Event.Enter i c)) o book
   unopened-refused o z e = refused-4 l book ok _ (enter-chain nextLane (stateOf l book) i c) z e
 
   pub lane-refused : (o : Outcome) → (l .lanes ≡ 0 → ⊥) → l .lanes ≤ i → o ≡ refusedOutcome l 8 → Meets (callEvent (stateOf l book) (Event.Enter i c)) o book
   lane-refused o n h e = refused-8 l book ok i _ (enter-chain nextLane (stateOf l book) i c) n h e
 
-  module _ (h : i < l .lanes) where
-    pub index-in : i < 64
-    index-in = let G = good-of l (length book) shape ok in omega (arith, G .facts .base .lanes-fit)
+  -- `counts` and `fitting` are what the functions that count the lanes and test the room give
+  module _ (shape : Shaped l) (h : i < l .lanes) (counts : LaneCounts) (counted : counts ≡ countsOf (l .lane)) where
+    -- the sum of the records does not wrap
+    pub total-in : l .pointer .0 + counts .total ≤ mostPointer
+    total-in = rw counted (total-low l book shape ok i h)
 
-    pub not-ready : (o : Outcome) → allPass (on isIdleOrGathered) (l .lane) ≡ false → o ≡ refusedOutcome l 11 → Meets (callEvent (stateOf l book) (Event.Enter i c)) o book
-    not-ready o r e = meets-refused l book 11 (enter-chain nextLane (stateOf l book) i c ∙ at-lane l book ok i _ h ∙ fails l book 11 _ r) e
+    pub gathered-in : counts .gathered ≤ mostLanes
+    gathered-in = rw counted (omega (arith, gathered-most (l .lane), shape .lanes-length))
 
-    module _ (r : allPass (on isIdleOrGathered) (l .lane) ≡ true) where
-      pub not-idle : (o : Outcome) → isIdle (phaseAt l i) ≡ false → o ≡ refusedOutcome l 13 → Meets (callEvent (stateOf l book) (Event.Enter i c)) o book
-      not-idle o d e =
-          meets-refused l book 13 (enter-chain nextLane (stateOf l book) i c ∙ at-lane l book ok i _ h ∙ passes l book 11 _ r ∙ fails l book 13 _ d) e
+    module _ (fitting : Bool) (fit : fitting ≡ fits (l .view) (l .capacity) (l .pointer) (counts .total + c))
+        (came : Entered) (asked : came ≡ admitted (phaseAt l i) (eqb (counts .active) (counts .gathered)) fitting (eqb (counts .gathered + 1) (l .lanes))) where
+      abbrev cameOf : LaneCounts → Bool → Entered
+      cameOf n f = admitted (phaseAt l i) (eqb (n .active) (n .gathered)) f (eqb (n .gathered + 1) (l .lanes))
 
-      module _ (d : isIdle (phaseAt l i) ≡ true) where
-        pub no-room : (o : Outcome) → fits (l .view) (l .capacity) (l .pointer) (gatheredTotal (entered l i c)) ≡ false → o ≡ refusedOutcome l 16
-            → Meets (callEvent (stateOf l book) (Event.Enter i c)) o book
-        no-room o f e =
-            meets-refused l book 16
-            (enter-chain nextLane (stateOf l book) i c ∙ at-lane l book ok i _ h ∙ passes l book 11 _ r ∙ passes l book 13 _ d ∙ fails l book 16 _ f) e
+      came-is : came ≡ enterOf l i c
+      came-is =
+          asked ∙ ap (cameOf counts) fit
+          ∙ ap (λ (n : LaneCounts). cameOf n (fits (l .view) (l .capacity) (l .pointer) (n .total + c))) counted
 
-        module _ (f : fits (l .view) (l .capacity) (l .pointer) (gatheredTotal (entered l i c)) ≡ true) where
-          -- the pointer after the whole ordered call is in range
-          pub reach : l .pointer .0 + gatheredTotal (entered l i c) ≤ mostPointer
-          reach =
-              let G = good-of l (length book) shape ok in
-              let n = when-open l (length book) (omega arith) (G .numbers) in
-              fits-low (l .capacity) (l .view) (n .view) (shape .blocks-length) (l .pointer .0) (gatheredTotal (entered l i c)) (n .reach) (n .most) f
+      -- the pointer after the whole ordered call is in range
+      pub reach : came ≡ Entered.Complete → l .pointer .0 + (counts .total + c) ≤ mostPointer
+      reach e = rw counted (enter-reach l book shape ok i h c (ap isAccepted (sym came-is ∙ e)))
 
-          pub enters : (o : Outcome) → o ≡ settled l (entered l i c) (countPass (on isGathered) (entered l i c)) (gatheredTotal (entered l i c))
-              → Meets (callEvent (stateOf l book) (Event.Enter i c)) o book
-          enters o e =
-              meets-as (enter-chain nextLane (stateOf l book) i c ∙ at-lane l book ok i _ h ∙ passes l book 11 _ r ∙ passes l book 13 _ d ∙ passes l book 16 _ f)
-              (by-test (eqb (countPass (on isGathered) (entered l i c)) (l .lanes))
-              (λ t. rw (e, t) (record { answer = refl; line = refl; book = refl }))
-              (λ t. rw (e, t) (record { answer = refl; line = refl; book = refl })))
+      pub enters : (o : Outcome) → o ≡ settled l (entered l i c) (counts .total + c) came → Meets (callEvent (stateOf l book) (Event.Enter i c)) o book
+      enters o e =
+          meets-as (enter-step l book shape ok i h c)
+          (meets-with book (e ∙ ap (λ (n : LaneCounts). settled l (entered l i c) (n .total + c) came) counted ∙ ap (settled l (entered l i c) (countsOf (l .lane) .total + c)) came-is))

@@ -1,2 +1,2 @@
--- The outcome of an entry into an ordered call.
+-- What an entry into an ordered call comes to, and its outcome.
 pub mod Settled

@@ -1,4 +1,4 @@
-// The call 0A enter: a lane enters an ordered call, and the last one to enter starts all of them. The line is sound: the entries test that.
+// The call 0A enter: a lane enters an ordered call, and the last one to enter starts all of them. A few numbers decide it. The line is sound: the entries test that.
 ghost use Prim.Native.Nat.{_+_, _≤_};
 ghost use mathlib.Core.Bool.{true};
 ghost use mathlib.Core.Path.{_≡_};
@@ -9,11 +9,9 @@ ghost use Rattle.event.specs.declared.Event.{Event};
 ghost use Rattle.steps.specs.Effects.{started, startedAt};
 ghost use Rattle.steps.specs.Meets.{Meets, stateOf};
 ghost use Rattle.steps.specs.Step.{callEvent};
-ghost use Rattle.ordered_calls.specs.Settled.{settled};
+ghost use Rattle.ordered_calls.specs.Settled.{admitted, completed, settled};
 use changes::phases::to_write;
-use lane_tests::rules;
-use lane_tests::rules::Rule;
-use lane_tests::tallies::tally_of;
+use lane_tests::tallies::counts_of;
 use limits::MOST_LANES;
 use line::Lane;
 use line::Line;
@@ -22,6 +20,32 @@ use refuse::refuse;
 use steps::Answer;
 use steps::Outcome;
 use view::Place;
+
+// What an enter of a lane comes to.
+pub enum Entered {
+    Refused(u8),
+    Gathered,
+    Complete,
+}
+
+// 11 unless all lanes are idle or gathered, 13 unless this one is idle, 16 unless its records fit after those gathered; complete with the last lane.
+pub fn admit(phase: Phase, calm: bool, fitting: bool, last: bool) -> Entered
+    ensures { λ r. ⌜ r ≡ admitted phase calm fitting last ⌝ }
+{
+    if !calm {
+        return Entered::Refused(11);
+    }
+    if !phase_tests::is_idle(phase) {
+        return Entered::Refused(13);
+    }
+    if !fitting {
+        return Entered::Refused(16);
+    }
+    if last {
+        return Entered::Complete;
+    }
+    Entered::Gathered
+}
 
 // A gathered lane starts at a place; the others stay as they are.
 fn start_at(phase: Phase, at: u32) -> Phase
@@ -34,7 +58,7 @@ fn start_at(phase: Phase, at: u32) -> Phase
 }
 
 // "lane r gets pointer + the counts of lanes below r".
-fn start_all(lanes: [Lane; MOST_LANES], pointer: u32) -> [Lane; MOST_LANES]
+pub fn start_all(lanes: [Lane; MOST_LANES], pointer: u32) -> [Lane; MOST_LANES]
     requires { ⌜ pointer ≤ mostPointer ⌝ }
     ensures { λ r. ⌜ r ≡ started pointer lanes ⌝ }
 {
@@ -53,27 +77,37 @@ fn start_all(lanes: [Lane; MOST_LANES], pointer: u32) -> [Lane; MOST_LANES]
     out
 }
 
-// The lanes with one more entered, of whom `gathered` are in with `total` records: all N start, or the lane waits for the others.
-fn settle(line: Line, lanes: [Lane; MOST_LANES], gathered: usize, total: u32) -> Outcome
+// All N lanes are in, with `total` records: each starts after those below it.
+fn complete(line: Line, lanes: [Lane; MOST_LANES], total: u32) -> Outcome
     requires { ⌜ line .pointer .0 + total ≤ mostPointer ⌝ }
-    ensures { λ r. ⌜ r ≡ settled line lanes gathered total ⌝ }
+    ensures { λ r. ⌜ r ≡ completed line lanes total ⌝ }
 {
-    let mut next = line;
-    if gathered != line.lanes as usize {
-        next.lane = lanes;
-        return Outcome {
-            line: next,
-            answer: Answer::Gathered,
-        };
-    }
     let before = line.pointer;
     let started = start_all(lanes, before.0);
     let pointer = Place(before.0 + total);
+    let mut next = line;
     next.lane = started;
     next.pointer = pointer;
     Outcome {
         line: next,
         answer: Answer::Ordered { before, total },
+    }
+}
+
+// What an enter leaves, with the lanes as they are once this one is in: the line as it is, these lanes, or all of them started.
+fn settle(line: Line, lanes: [Lane; MOST_LANES], total: u32, came: Entered) -> Outcome
+    requires { ⌜ (came ≡ Entered.Complete → line .pointer .0 + total ≤ mostPointer) ⌝ }
+    ensures { λ r. ⌜ r ≡ settled line lanes total came ⌝ }
+{
+    let mut next = line;
+    next.lane = lanes;
+    match came {
+        Entered::Refused(number) => refuse(line, number),
+        Entered::Gathered => Outcome {
+            line: next,
+            answer: Answer::Gathered,
+        },
+        Entered::Complete => complete(line, lanes, total),
     }
 }
 
@@ -88,24 +122,19 @@ pub fn enter(line: Line, book: &[u8], lane: u8, count: u16) -> Outcome
     if line.lanes <= lane {
         return refuse(line, 8);
     }
-    if !rules::all_meet(Rule::IdleOrGathered, line, 0) {
-        return refuse(line, 11);
-    }
     let i = lane as usize;
     let mut lanes = line.lane;
     let own = lanes[i];
     let phase = own.phase;
-    if !phase_tests::is_idle(phase) {
-        return refuse(line, 13);
-    }
+    let counts = counts_of(lanes);
+    let total = counts.total + count as u32;
+    let view = line.view;
+    let fitting = view.fits(line.capacity, line.pointer, total);
+    let calm = counts.active == counts.gathered;
+    let last = counts.gathered + 1 == line.lanes as u32;
+    let came = admit(phase, calm, fitting, last);
     lanes[i] = Lane {
         phase: Phase::Gathered(count),
     };
-    let tally = tally_of(lanes);
-    let view = line.view;
-    let pointer = line.pointer;
-    if !view.fits(line.capacity, pointer, tally.total) {
-        return refuse(line, 16);
-    }
-    settle(line, lanes, tally.gathered, tally.total)
+    settle(line, lanes, total, came)
 }

@@ -6,8 +6,9 @@ use lib.Dec.{leb}
 use lib.ListN.{drop, take}
 use lib.Seq.{sets}
 use Rattle.lists.specs.Lists.{implies}
-use Rattle.view.specs.View.{fits, positionOf, recordEnd}
+use Rattle.view.specs.View.{positionOf}
 use Rattle.view.specs.declared.Place.{Place}
+use Rattle.view.specs.declared.Position.{Position}
 use Rattle.view.specs.declared.View.{View}
 use Rattle.line.specs.declared.Phase.{Phase}
 use Rattle.line.specs.Line.{holdsWhole, isReading, isWriting, placeIn}
@@ -19,24 +20,32 @@ use Rattle.changes.specs.Change.{refusedChange}
 use Rattle.changes.specs.declared.Change.{Change}
 use Rattle.changes.specs.declared.Seen.{Seen}
 
--- ---- 05 and 07: a record put at place k, by a lane that has phase y after it
-abbrev pub recordPut : Seen → View → Place → Phase → Change
-recordPut s v k y =
-    record { answer = Answer.Wrote (positionOf v k); phase = y; flag = s .flag; pointer = s .pointer; size = max (s .size) (recordEnd v k); wakes = Wakes.None }
+-- where the next record of a busy lane stands
+abbrev pub nextPosition : View → Seen → Position
+nextPosition v s = positionOf v (placeIn (s .phase))
+
+-- ---- 05 and 07: a record put at position p, by a lane that has phase y after it
+abbrev pub recordPut : Seen → Position → Phase → Change
+recordPut s p y =
+    record { answer = Answer.Wrote p; phase = y; flag = s .flag; pointer = s .pointer; size = max (s .size) (p .0 + 8); wakes = Wakes.None }
 
 -- 13 to a lane that is no busy writer
-abbrev pub writtenBy : Seen → View → Phase → Change
-writtenBy s v x = cond (isWriting x) (recordPut s v (placeIn x) (oneLess x)) (refusedChange s 13)
+abbrev pub writtenBy : Seen → Position → Phase → Change
+writtenBy s p x = cond (isWriting x) (recordPut s p (oneLess x)) (refusedChange s 13)
 
 abbrev pub writeChange : Seen → View → Change
-writeChange s v = writtenBy s v (s .phase)
+writeChange s v = writtenBy s (nextPosition v s) (s .phase)
+
+-- 13 to a lane that does not hold the whole book, 16 where the record does not fit
+abbrev pub putAt : Seen → Position → Change
+putAt s p = cond (not (holdsWhole (s .phase))) (refusedChange s 13) (cond (not (leb (p .0 + 8) (s .capacity))) (refusedChange s 16) (recordPut s p (s .phase)))
 
 abbrev pub putChange : Seen → View → Place → Change
-putChange s v k = cond (not (holdsWhole (s .phase))) (refusedChange s 13) (cond (not (fits v (s .capacity) k 1)) (refusedChange s 16) (recordPut s v k (s .phase)))
+putChange s v k = putAt s (positionOf v k)
 
 -- the next record of a busy writer fits, as it does on a sound line
-abbrev pub writable : Seen → View → Bool
-writable s v = implies (isWriting (s .phase)) (fits v (s .capacity) (placeIn (s .phase)) 1)
+abbrev pub writable : Seen → Position → Bool
+writable s p = implies (isWriting (s .phase)) (leb (p .0 + 8) (s .capacity))
 
 -- the book after an answer: a record that was put stands at its position
 abbrev pub bookAfter : ℕ → List ℕ → Answer → List ℕ
@@ -70,21 +79,25 @@ storable Answer.View n = true
 storable (Answer.Seek pointer) n = true
 storable (Answer.Refused number) n = true
 
--- ---- 06 and 08: the record at place k, or none where it ends past the size
-abbrev pub recordIn : View → ℕ → List ℕ → Place → Answer
-recordIn v size book k =
-    cond (leb (recordEnd v k) size) (Answer.Record (numberOf (take 8 (drop (positionOf v k .0) book)))) Answer.None
+-- ---- 06 and 08: the record at position p, or none where it ends past the size
+abbrev pub recordIn : Position → ℕ → List ℕ → Answer
+recordIn p size book =
+    cond (leb (p .0 + 8) size) (Answer.Record (numberOf (take 8 (drop (p .0) book)))) Answer.None
 
-abbrev pub recordFound : Seen → View → List ℕ → Place → Phase → Change
-recordFound s v book k y =
-    record { answer = recordIn v (s .size) book k; phase = y; flag = s .flag; pointer = s .pointer; size = s .size; wakes = Wakes.None }
+abbrev pub recordFound : Seen → Position → List ℕ → Phase → Change
+recordFound s p book y =
+    record { answer = recordIn p (s .size) book; phase = y; flag = s .flag; pointer = s .pointer; size = s .size; wakes = Wakes.None }
 
 -- 13 to a lane that is no busy reader
-abbrev pub readBy : Seen → View → List ℕ → Phase → Change
-readBy s v book x = cond (isReading x) (recordFound s v book (placeIn x) (oneLess x)) (refusedChange s 13)
+abbrev pub readBy : Seen → Position → List ℕ → Phase → Change
+readBy s p book x = cond (isReading x) (recordFound s p book (oneLess x)) (refusedChange s 13)
 
 abbrev pub readChange : Seen → View → List ℕ → Change
-readChange s v book = readBy s v book (s .phase)
+readChange s v book = readBy s (nextPosition v s) book (s .phase)
+
+-- 13 to a lane that does not hold the whole book
+abbrev pub lookAt : Seen → Position → List ℕ → Change
+lookAt s p book = cond (not (holdsWhole (s .phase))) (refusedChange s 13) (recordFound s p book (s .phase))
 
 abbrev pub lookChange : Seen → View → List ℕ → Place → Change
-lookChange s v book k = cond (not (holdsWhole (s .phase))) (refusedChange s 13) (recordFound s v book k (s .phase))
+lookChange s v book k = lookAt s (positionOf v k) book

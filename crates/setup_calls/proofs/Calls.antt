@@ -1,151 +1,134 @@
--- The steps of open, view and seek on a sound line: each refusal, and the accepted call from the values that the functions compute.
-use Prim.Native.Nat.{ℕ, zero, suc, _≤_, _<_}
+-- The calls open, view and seek from the values that the functions compute: refused by a number, or accepted.
+use Prim.Native.Nat.{ℕ, suc, _≤_}
 use mathlib.Core.Path.{_≡_, refl, sym, ap, _∙_}
-use mathlib.Core.Bool.{Bool, true, false, cond, _&&_}
-use mathlib.Core.List.{List, _++_}
-use lib.ListN.{drop, length, replicate}
-use lib.IntN.{ℤ, pos, _+ℤ_}
-use lib.Dec.{leb}
-use borrow.Author.Tests.{eq-eqb, le-ltb, leb-true, lt-ltb, ne-eqb}
+use mathlib.Core.Bool.{Bool, true, false, cond, not, _&&_}
+use mathlib.Core.List.{List}
+use native.Mathlib.Omega.{arith}
+use lib.ListN.{length}
+use lib.IntN.{ℤ}
+use lib.Dec.{eqb, leb, ltb}
+use borrow.Author.Tests.{leb-true, not-false}
+use Rattle.limits.specs.Limits.{leastCapacity, mostCapacity}
 use Rattle.lists.specs.Lists.{allPass}
 use Rattle.lists.proofs.Tests.{and-right, clash}
-use Rattle.view.specs.View.{endOfBook, place, viewOk}
+use Rattle.view.specs.View.{place}
 use Rattle.view.specs.declared.Place.{Place}
 use Rattle.view.specs.declared.View.{View}
 use Rattle.line.specs.declared.Line.{Line}
-use Rattle.limits.specs.Limits.{mostLanes}
 use Rattle.line.specs.Line.{isIdle, on}
 use Rattle.line.specs.Sound.{sound}
-use Rattle.waitlist.specs.NextLane.{nextLane}
 use Rattle.event.specs.declared.Blocks.{Blocks}
 use Rattle.event.specs.declared.Event.{Event}
-use Rattle.steps.specs.Effects.{opened, placeAt, seekBase, seekTarget, viewOf}
+use Rattle.steps.specs.Effects.{placeAt, seekTarget, viewOf}
 use Rattle.steps.specs.Meets.{Meets, stateOf}
 use Rattle.steps.specs.Refusals.{isOutside}
-use Rattle.steps.specs.State.{withPointer, withView}
+use Rattle.steps.specs.State.{Result, withPointer, withView}
 use Rattle.steps.specs.Step.{callEvent}
 use Rattle.steps.specs.declared.Answer.{Answer}
 use Rattle.steps.specs.declared.Outcome.{Outcome}
-use Rattle.steps.proofs.Chains.{open-chain, seek-chain, view-chain}
 use Rattle.refuse.specs.Refused.{refusedOutcome}
-use Rattle.refuse.proofs.First.{fails, goes-on, meets-as, meets-refused, passes, stops, when-open, when-sound}
+use Rattle.refuse.proofs.First.{meets-as, meets-refused}
 use Rattle.setup_calls.specs.declared.target.Sought.{Sought}
-use Rattle.setup_calls.specs.Setup.{baseOf, soughtAt}
+use Rattle.setup_calls.specs.Setup.{capacityTest, lanesTest, openRefusal, placeOf, seekRefusal, soughtAt, targetOf, viewRefusal}
+use Rattle.setup_calls.proofs.Steps.{none-refuses, orRefused, refused-by, seek-step, target-is, view-step}
 
--- ---- the numbers of an opening, as tests
-abbrev pub lanesTest : ℕ → Bool
-lanesTest lanes = leb 1 lanes && leb lanes mostLanes
+-- ---- the last test of a chain that no number refuses
+last-of-two : (a b : Bool) (i j : ℕ) → _≡_ {A = ℕ} (cond a (suc i) (cond b (suc j) 0)) 0 → b ≡ false
+last-of-two true b i j e = absurd (omega arith)
+last-of-two false true i j e = absurd (omega arith)
+last-of-two false false i j e = refl
 
-abbrev pub capacityTest : ℕ → ℕ → Bool
-capacityTest capacity buffer = leb 8 capacity && leb capacity 65536 && leb capacity buffer
+last-of-three : (a b c : Bool) (i j k : ℕ) → _≡_ {A = ℕ} (cond a (suc i) (cond b (suc j) (cond c (suc k) 0))) 0 → c ≡ false
+last-of-three true b c i j k e = absurd (omega arith)
+last-of-three false b c i j k e = last-of-two b c j k e
 
-pub capacity-held : (capacity buffer : ℕ) → capacityTest capacity buffer ≡ true → capacity ≤ buffer
-capacity-held capacity buffer e = leb-true capacity buffer (and-right (leb 8 capacity && leb capacity 65536) (leb capacity buffer) e)
+last-of-four : (a b c d : Bool) (i j k m : ℕ) → _≡_ {A = ℕ} (cond a (suc i) (cond b (suc j) (cond c (suc k) (cond d (suc m) 0)))) 0 → d ≡ false
+last-of-four true b c d i j k m e = absurd (omega arith)
+last-of-four false b c d i j k m e = last-of-three b c d j k m e
+
+-- the buffer holds the capacity of an opening that nothing refuses
+pub capacity-held : (own lanes capacity buffer : ℕ) → openRefusal own lanes capacity buffer ≡ 0 → capacity ≤ buffer
+capacity-held own lanes capacity buffer e =
+    let held = last-of-three (not (eqb own 0)) (not (lanesTest lanes)) (not (capacityTest capacity buffer)) 4 5 6 e in
+    leb-true capacity buffer (and-right (leb leastCapacity capacity && leb capacity mostCapacity) (leb capacity buffer) (not-false (capacityTest capacity buffer) held))
 
 -- ---- the place sought
 abbrev isAt : Sought → Bool
 isAt (Sought.At k) = true
 isAt Sought.Outside = false
 
-abbrev placeOf : Place → Sought → Place
-placeOf d (Sought.At k) = k
-placeOf d Sought.Outside = d
+outside-of : (b : Bool) (k : Place) → cond b Sought.Outside (Sought.At k) ≡ Sought.Outside → b ≡ true
+outside-of true k e = refl
+outside-of false k e = clash (ap isAt e)
 
-sought-outside : (b : Bool) (k : Place) → cond b Sought.Outside (Sought.At k) ≡ Sought.Outside → b ≡ true
-sought-outside true k e = refl
-sought-outside false k e = clash (ap isAt e)
+inside-of : (b : Bool) (k p : Place) → cond b Sought.Outside (Sought.At k) ≡ Sought.At p → b ≡ false
+inside-of true k p e = clash (sym (ap isAt e))
+inside-of false k p e = refl
 
-sought-at : (b : Bool) (k p : Place) → cond b Sought.Outside (Sought.At k) ≡ Sought.At p → (b ≡ false) × (k ≡ p)
-sought-at true k p e = clash (sym (ap isAt e))
-sought-at false k p e = (refl, ap (placeOf p) e)
+-- what the answer of a search for the place says; `read` is the offset as the function that answers reads it
+module _ (size : ℕ) (pointer : Place) (v : View) (whence : ℕ) (offset read : ℤ) (exact : read ≡ offset) (o : Sought) (found : o ≡ soughtAt (targetOf size pointer v whence read)) where
+  sought-exact : soughtAt (targetOf size pointer v whence offset) ≡ o
+  sought-exact = sym (found ∙ ap (λ (z : ℤ). soughtAt (targetOf size pointer v whence z)) exact)
 
-base-is : (l : Line) (whence : ℕ) → baseOf whence (l .pointer) (endOfBook (l .view) (l .size)) .0 ≡ seekBase l whence
-base-is l zero = refl
-base-is l (suc zero) = refl
-base-is l (suc (suc k)) = refl
+  pub found-outside : o ≡ Sought.Outside → isOutside (targetOf size pointer v whence offset) ≡ true
+  found-outside e = outside-of (isOutside (targetOf size pointer v whence offset)) (placeAt (targetOf size pointer v whence offset)) (sought-exact ∙ e)
 
-module _ (l : Line) (book : List ℕ) (ok : sound l (length book) ≡ true) where
-  -- ---- 01
-  module _ (lanes capacity : ℕ) where
-    pub open-5 : (o : Outcome) → (l .lanes ≡ 0 → ⊥) → o ≡ refusedOutcome l 5 → Meets (callEvent (stateOf l book) (Event.Open lanes capacity)) o book
-    open-5 o n f =
-        meets-refused l book 5 (open-chain nextLane (stateOf l book) lanes capacity ∙ when-sound l book ok _ ∙ fails l book 5 _ (ne-eqb (l .lanes) 0 n)) f
+  pub found-inside : (p : Place) → o ≡ Sought.At p → isOutside (targetOf size pointer v whence offset) ≡ false
+  found-inside p e = inside-of (isOutside (targetOf size pointer v whence offset)) (placeAt (targetOf size pointer v whence offset)) p (sought-exact ∙ e)
 
-    module _ (z : l .lanes ≡ 0) where
-      pub open-6 : (o : Outcome) → lanesTest lanes ≡ false → o ≡ refusedOutcome l 6 → Meets (callEvent (stateOf l book) (Event.Open lanes capacity)) o book
-      open-6 o a f =
-          meets-refused l book 6
-          (open-chain nextLane (stateOf l book) lanes capacity ∙ when-sound l book ok _ ∙ passes l book 5 _ (eq-eqb (l .lanes) 0 z) ∙ fails l book 6 _ a) f
+place-in-range : (target : ℤ) → isOutside target ≡ false → placeOf (soughtAt target) ≡ placeAt target
+place-in-range target e = rw e
 
-      pub open-7 : (o : Outcome) → lanesTest lanes ≡ true → capacityTest capacity (length book) ≡ false → o ≡ refusedOutcome l 7
-          → Meets (callEvent (stateOf l book) (Event.Open lanes capacity)) o book
-      open-7 o a b f =
-          meets-refused l book 7
-          (open-chain nextLane (stateOf l book) lanes capacity ∙ when-sound l book ok _ ∙ passes l book 5 _ (eq-eqb (l .lanes) 0 z) ∙ passes l book 6 _ a ∙ fails l book 7 _ b) f
+module _ (l : Line) (book : List ℕ) where
+  -- ---- a step that a number refuses, from the number that a function gives
+  module _ {step : Result} (r : Result) (k m : ℕ) (chain : step ≡ orRefused m (stateOf l book) r) (asked : k ≡ m) where
+    pub meets-number : {o : Outcome} → (k ≡ 0 → ⊥) → o ≡ refusedOutcome l k → Meets step o book
+    meets-number n f =
+        meets-refused l book k (chain ∙ ap (λ (j : ℕ). orRefused j (stateOf l book) r) (sym asked) ∙ refused-by k (stateOf l book) r n) f
 
-      pub open-meets : (next : Line) (bytes : List ℕ) → lanesTest lanes ≡ true → capacityTest capacity (length book) ≡ true → next ≡ opened lanes capacity
-          → bytes ≡ replicate capacity 0 ++ drop capacity book
-          → Meets (callEvent (stateOf l book) (Event.Open lanes capacity)) (record { line = next; answer = Answer.Open lanes capacity }) bytes
-      open-meets next bytes a b e f =
-          meets-as
-          (open-chain nextLane (stateOf l book) lanes capacity ∙ when-sound l book ok _ ∙ passes l book 5 _ (eq-eqb (l .lanes) 0 z) ∙ passes l book 6 _ a ∙ passes l book 7 _ b)
-          (record { answer = refl; line = e; book = f })
+    pub meets-none : {o : Outcome} {bytes : List ℕ} → k ≡ 0 → Meets r o bytes → Meets step o bytes
+    meets-none z meets = meets-as (chain ∙ none-refuses m (stateOf l book) r (sym asked ∙ z)) meets
 
-  module _ (n : l .lanes ≡ 0 → ⊥) where
-    -- ---- 0B
-    module _ (displacement extent used : ℕ) (blocks : Blocks) (v : View) (same : v ≡ viewOf displacement extent used blocks) where
-      abbrev viewTest : View → Bool
-      viewTest w = viewOk (l .capacity) w
+  module _ (ok : sound l (length book) ≡ true) where
+    -- ---- 0B: `v` and `idle` are what the functions that make the view and test the lanes give
+    module _ (displacement extent used : ℕ) (blocks : Blocks) (v : View) (same : v ≡ viewOf displacement extent used blocks)
+        (idle : Bool) (tested : idle ≡ allPass (on isIdle) (l .lane)) (k : ℕ) (asked : k ≡ viewRefusal (l .lanes) (l .capacity) v idle) where
+      number-of-view : k ≡ viewRefusal (l .lanes) (l .capacity) (viewOf displacement extent used blocks) (allPass (on isIdle) (l .lane))
+      number-of-view = asked ∙ ap (λ (w : View). viewRefusal (l .lanes) (l .capacity) w idle) same ∙ ap (viewRefusal (l .lanes) (l .capacity) (viewOf displacement extent used blocks)) tested
 
-      pub view-10 : (o : Outcome) → viewOk (l .capacity) v ≡ false → o ≡ refusedOutcome l 10
-          → Meets (callEvent (stateOf l book) (Event.View displacement extent used blocks)) o book
-      view-10 o a f =
-          meets-refused l book 10
-          (view-chain nextLane (stateOf l book) displacement extent used blocks ∙ when-open l book ok _ n ∙ fails l book 10 _ (sym (ap viewTest same) ∙ a)) f
+      pub view-refused : (o : Outcome) → (k ≡ 0 → ⊥) → o ≡ refusedOutcome l k → Meets (callEvent (stateOf l book) (Event.View displacement extent used blocks)) o book
+      view-refused o n f = meets-number _ k _ (view-step l book ok displacement extent used blocks) number-of-view n f
 
-      pub view-11 : (o : Outcome) → viewOk (l .capacity) v ≡ true → allPass (on isIdle) (l .lane) ≡ false → o ≡ refusedOutcome l 11
-          → Meets (callEvent (stateOf l book) (Event.View displacement extent used blocks)) o book
-      view-11 o a b f =
-          meets-refused l book 11
-          (view-chain nextLane (stateOf l book) displacement extent used blocks ∙ when-open l book ok _ n ∙ passes l book 10 _ (sym (ap viewTest same) ∙ a) ∙ fails l book 11 _ b) f
-
-      pub view-meets : viewOk (l .capacity) v ≡ true → allPass (on isIdle) (l .lane) ≡ true
+      pub view-meets : k ≡ 0
           → Meets (callEvent (stateOf l book) (Event.View displacement extent used blocks)) (record { line = withPointer (withView l v) (place 0); answer = Answer.View }) book
-      view-meets a b =
-          meets-as
-          (view-chain nextLane (stateOf l book) displacement extent used blocks ∙ when-open l book ok _ n ∙ passes l book 10 _ (sym (ap viewTest same) ∙ a) ∙ passes l book 11 _ b)
+      view-meets z =
+          meets-none _ k _ (view-step l book ok displacement extent used blocks) number-of-view z
           (record { answer = refl; line = ap (λ (w : View). withPointer (withView l w) (place 0)) same; book = refl })
 
-    -- ---- 0C
-    module _ (whence : ℕ) (offset : ℤ) where
-      pub seek-9 : (o : Outcome) → 2 < whence → o ≡ refusedOutcome l 9 → Meets (callEvent (stateOf l book) (Event.Seek whence offset)) o book
-      seek-9 o a f =
-          meets-refused l book 9 (seek-chain nextLane (stateOf l book) whence offset ∙ when-open l book ok _ n ∙ stops l book 9 _ (lt-ltb 2 whence a)) f
+    -- ---- 0C: `read` is the offset as the functions that are handed it read it
+    module _ (whence : ℕ) (offset read : ℤ) (exact : read ≡ offset) (idle : Bool) (tested : idle ≡ allPass (on isIdle) (l .lane))
+        (k : ℕ) (asked : k ≡ seekRefusal (l .lanes) (l .size) (l .pointer) (l .view) whence read idle) where
+      abbrev numberFor : ℤ → Bool → ℕ
+      numberFor z b = seekRefusal (l .lanes) (l .size) (l .pointer) (l .view) whence z b
 
-      module _ (a : whence ≤ 2) where
-        pub seek-11 : (o : Outcome) → allPass (on isIdle) (l .lane) ≡ false → o ≡ refusedOutcome l 11 → Meets (callEvent (stateOf l book) (Event.Seek whence offset)) o book
-        seek-11 o b f =
-            meets-refused l book 11
-            (seek-chain nextLane (stateOf l book) whence offset ∙ when-open l book ok _ n ∙ goes-on l book 9 _ (le-ltb 2 whence a) ∙ fails l book 11 _ b) f
+      number-of-seek : k ≡ numberFor offset (allPass (on isIdle) (l .lane))
+      number-of-seek = asked ∙ ap (λ (z : ℤ). numberFor z idle) exact ∙ ap (numberFor offset) tested
 
-        -- `read` is the offset as the function that adds it reads it
-        module _ (b : allPass (on isIdle) (l .lane) ≡ true) (end base : Place) (ends : end ≡ endOfBook (l .view) (l .size)) (based : base ≡ baseOf whence (l .pointer) end) (read : ℤ) (exact : read ≡ offset) where
-          target-is : pos (base .0) +ℤ read ≡ seekTarget l whence offset
-          target-is =
-              ap (λ (z : ℤ). pos (base .0) +ℤ z) exact
-              ∙ ap (λ (k : ℕ). pos k +ℤ offset) (ap (λ (k : Place). k .0) (based ∙ ap (baseOf whence (l .pointer)) ends) ∙ base-is l whence)
+      pub seek-refused : (o : Outcome) → (k ≡ 0 → ⊥) → o ≡ refusedOutcome l k → Meets (callEvent (stateOf l book) (Event.Seek whence offset)) o book
+      seek-refused o n f = meets-number _ k _ (seek-step l book ok whence offset) number-of-seek n f
 
-          pub seek-15 : (o : Outcome) → soughtAt (pos (base .0) +ℤ read) ≡ Sought.Outside → o ≡ refusedOutcome l 15
-              → Meets (callEvent (stateOf l book) (Event.Seek whence offset)) o book
-          seek-15 o e f =
-              let out = sought-outside (isOutside (seekTarget l whence offset)) _ (rw target-is at e) in
-              meets-refused l book 15
-              (seek-chain nextLane (stateOf l book) whence offset ∙ when-open l book ok _ n ∙ goes-on l book 9 _ (le-ltb 2 whence a) ∙ passes l book 11 _ b ∙ stops l book 15 _ out) f
+      module _ (z : k ≡ 0) (p : Place) (found : p ≡ placeOf (soughtAt (targetOf (l .size) (l .pointer) (l .view) whence read))) where
+        in-range : isOutside (targetOf (l .size) (l .pointer) (l .view) whence offset) ≡ false
+        in-range =
+            last-of-four (eqb (l .lanes) 0) (ltb 2 whence) (not (allPass (on isIdle) (l .lane))) (isOutside (targetOf (l .size) (l .pointer) (l .view) whence offset)) 3 8 10 14
+            (sym number-of-seek ∙ z)
 
-          pub seek-meets : (k : Place) → soughtAt (pos (base .0) +ℤ read) ≡ Sought.At k
-              → Meets (callEvent (stateOf l book) (Event.Seek whence offset)) (record { line = withPointer l k; answer = Answer.Seek k }) book
-          seek-meets k e =
-              let in-range = sought-at (isOutside (seekTarget l whence offset)) (placeAt (seekTarget l whence offset)) k (rw target-is at e) in
-              meets-as
-              (seek-chain nextLane (stateOf l book) whence offset ∙ when-open l book ok _ n ∙ goes-on l book 9 _ (le-ltb 2 whence a) ∙ passes l book 11 _ b ∙ goes-on l book 15 _ (in-range .0))
-              (record { answer = ap (λ (p : Place). Answer.Seek p) (sym (in-range .1)); line = ap (λ (p : Place). withPointer l p) (sym (in-range .1)); book = refl })
+        place-is : p ≡ placeAt (seekTarget l whence offset)
+        place-is =
+            found ∙ ap (λ (y : ℤ). placeOf (soughtAt (targetOf (l .size) (l .pointer) (l .view) whence y))) exact
+            ∙ place-in-range (targetOf (l .size) (l .pointer) (l .view) whence offset) in-range ∙ ap placeAt (target-is l whence offset)
+
+        pub seek-meets : Meets (callEvent (stateOf l book) (Event.Seek whence offset)) (record { line = withPointer l p; answer = Answer.Seek p }) book
+        seek-meets =
+            meets-none _ k _ (seek-step l book ok whence offset) number-of-seek z
+            (record { answer = ap (λ (y : Place). Answer.Seek y) place-is; line = ap (λ (y : Place). withPointer l y) place-is; book = refl })

@@ -1,4 +1,5 @@
 -- The laws behind the calls that set the line up.
 pub mod Zeroes
 pub mod Sums
+pub mod Steps
 pub mod Calls

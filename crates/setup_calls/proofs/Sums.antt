@@ -1,6 +1,6 @@
 -- The machine's sum of a base and a signed offset is that of the integers, and what the tests on it say of the place sought.
 use Prim.Native.Nat.{ℕ, zero, suc, _+_, _-_, _<_, _^_}
-use mathlib.Core.Path.{_≡_, refl}
+use mathlib.Core.Path.{_≡_, refl, ap, _∙_}
 use mathlib.Core.Bool.{Bool, true, false, cond}
 use native.Mathlib.Omega.{arith}
 use lib.IntN.{ℤ, pos, negsuc, _+ℤ_, natAbs}
@@ -11,10 +11,11 @@ use mir.Val.{Fits, SFits, ofZ, toZ}
 use mir.Facts.{sfits-widen, toZ-ofZ, toZ-pos}
 use borrow.Author.Tests.{ltb-false, ltb-true}
 use Rattle.lists.proofs.Tests.{clash}
-use Rattle.view.specs.View.{place}
+use Rattle.view.specs.View.{endOfBook, place}
 use Rattle.view.specs.declared.Place.{Place}
+use Rattle.view.specs.declared.View.{View}
 use Rattle.setup_calls.specs.declared.target.Sought.{Sought}
-use Rattle.setup_calls.specs.Setup.{baseOf, soughtAt}
+use Rattle.setup_calls.specs.Setup.{baseOf, soughtAt, targetOf}
 
 -- ---- the sum
 mag-cond : (t : Bool) (a b n : ℕ) → a < n → b < n → mag (cond t (negsuc a) (pos b)) < n
@@ -66,3 +67,10 @@ pub base-last : (whence : ℕ) (pointer end : Place) → (whence ≡ 0 → ⊥) 
 base-last zero pointer end a b = absurd (a refl)
 base-last (suc zero) pointer end a b = absurd (b refl)
 base-last (suc (suc k)) pointer end a b = refl
+
+-- where a seek goes, from the values that the functions give; `read` is the offset as the function that adds it reads it
+pub sought-is : (size : ℕ) (pointer : Place) (v : View) (whence : ℕ) (offset read : ℤ) (end base : Place) (o : Sought)
+    → end ≡ endOfBook v size → base ≡ baseOf whence pointer end → read ≡ offset → o ≡ soughtAt (pos (base .0) +ℤ read)
+    → o ≡ soughtAt (targetOf size pointer v whence offset)
+sought-is size pointer v whence offset read end base o ends based exact found =
+    found ∙ ap (λ (z : ℤ). soughtAt (pos (base .0) +ℤ z)) exact ∙ ap (λ (k : Place). soughtAt (pos (k .0) +ℤ offset)) (based ∙ ap (baseOf whence pointer) ends)

@@ -1,9 +1,10 @@
 // The place that a seek asks for: a signed offset added to a base, exact over the integers.
 ghost use mathlib.Core.Path.{_≡_};
 ghost use lib.IntN.{pos, _+ℤ_};
-ghost use Rattle.setup_calls.specs.Setup.{baseOf, soughtAt};
+ghost use Rattle.setup_calls.specs.Setup.{baseOf, placeOf, soughtAt, targetOf};
 use limits::MOST_POINTER;
 use view::Place;
+use view::View;
 
 // The last place that the pointer takes, as a signed number.
 const LAST_PLACE: i64 = MOST_POINTER as i64;
@@ -40,4 +41,23 @@ pub fn moved_by(base: u32, offset: i32) -> Sought
     }
     let place = Place(sum as u32);
     Sought::At(place)
+}
+
+// Where a seek goes from the numbers of a line.
+pub fn seek_to(size: u32, pointer: Place, view: View, whence: u8, offset: i32) -> Sought
+    ensures { λ r. ⌜ r ≡ soughtAt (targetOf size pointer view whence offset) ⌝ }
+{
+    let base = base(whence, pointer, view.end_of_book(size));
+    moved_by(base.0, offset)
+}
+
+// The place where a seek goes that is not refused.
+pub fn place_sought(size: u32, pointer: Place, view: View, whence: u8, offset: i32) -> Place
+    ensures { λ r. ⌜ r ≡ placeOf (soughtAt (targetOf size pointer view whence offset)) ⌝ }
+{
+    let sought = seek_to(size, pointer, view, whence, offset);
+    match sought {
+        Sought::At(place) => place,
+        Sought::Outside => Place(0),
+    }
 }

@@ -1,6 +1,6 @@
 -- The changes of the calls of the waitlist keep what a change keeps: no lane is gathered by them, and the woken lane is one of the arrays.
 use Prim.Native.Nat.{ℕ, _+_, _≤_}
-use mathlib.Core.Path.{_≡_, refl, _∙_}
+use mathlib.Core.Path.{_≡_, refl}
 use mathlib.Core.Bool.{true, false, not}
 use mathlib.Core.List.{List}
 use lib.Dec.{eqb, ltb}
@@ -19,8 +19,8 @@ use Rattle.line.proofs.Phases.{numbered}
 use Rattle.steps.specs.declared.Answer.{Answer}
 use Rattle.changes.specs.Change.{refusedChange}
 use Rattle.changes.specs.declared.Seen.{Seen}
-use Rattle.changes.proofs.Steps.{Regular, next-in, reading-apart, regular-by, regular-kept, regular-refused, writing-apart}
-use Rattle.turn_calls.specs.Turns.{freeChange, receiveChange, takeChange, takenBy, wantChange}
+use Rattle.changes.proofs.Steps.{Regular, next-in, reading-apart, regular-apart, regular-by, regular-kept, regular-refused, writing-apart}
+use Rattle.turn_calls.specs.Turns.{freeChange, receiveChange, takeChange, takeFits, takenBy, wantChange}
 
 -- a lane that is idle, or holds the whole book, is not gathered
 idle-apart : (x : Phase) → isIdle x ≡ true → false ≡ isGathered x
@@ -39,21 +39,21 @@ module _ (s : Seen) (lanes-fit : s .lanes ≤ mostLanes) (i : ℕ) where
       (λ _. regular-refused s 12 (s .gathering)
       (λ _. regular-refused s 13 (not (isIdle (s .phase)))
       (λ e. let apart = idle-apart (s .phase) (not-false _ e) in
-      regular-by s (allPass (eqb 0) (set flags i 0)) (λ _. record { wakes = refl; gathered = apart }) (λ _. record { wakes = refl; gathered = apart }))))
+      regular-by s (allPass (eqb 0) (set flags i 0)) (λ _. regular-apart s refl refl apart) (λ _. regular-apart s refl refl apart))))
 
   pub receive-regular : Regular s (receiveChange s)
   receive-regular =
-      regular-by s (isWoken (s .phase)) (λ w. record { wakes = refl; gathered = rw (numbered (s .phase) 2 w) })
+      regular-by s (isWoken (s .phase)) (λ w. regular-apart s refl refl (rw (numbered (s .phase) 2 w)))
       (λ _. regular-by s (isWaiting (s .phase)) (λ _. regular-kept s (Answer.Refused 14)) (λ _. refused-13))
 
   module _ (view : View) (flags : List ℕ) (c : ℕ) where
-    take-held : (q : Purpose) (v : Place) → false ≡ isGathered (s .phase) → Regular s (takenBy s view flags i q v c)
+    take-held : (q : Purpose) (v : Place) → false ≡ isGathered (s .phase) → Regular s (takenBy s (takeFits view s c) flags i q v c)
     take-held Purpose.SharedWrite v e =
-        regular-refused s 16 (not (fits view (s .capacity) v c))
-        (λ _. record { wakes = next-in (s .lanes) (set flags i 0) i lanes-fit; gathered = writing-apart c v ∙ e })
+        regular-refused s 16 (not (takeFits view s c))
+        (λ _. regular-apart s (next-in (s .lanes) (set flags i 0) i lanes-fit) (writing-apart c v) e)
     take-held Purpose.SharedRead v e =
         regular-refused s 15 (ltb mostPointer (v .0 + c))
-        (λ _. record { wakes = next-in (s .lanes) (set flags i 0) i lanes-fit; gathered = reading-apart c v ∙ e })
+        (λ _. regular-apart s (next-in (s .lanes) (set flags i 0) i lanes-fit) (reading-apart c v) e)
     take-held Purpose.WholeBook v e = refused-13
 
     pub take-regular : Regular s (takeChange s view flags i c)
@@ -63,4 +63,4 @@ module _ (s : Seen) (lanes-fit : s .lanes ≤ mostLanes) (i : ℕ) where
   pub free-regular : (flags : List ℕ) → Regular s (freeChange s flags i)
   free-regular flags =
       regular-refused s 13 (not (holdsWhole (s .phase)))
-      (λ e. record { wakes = next-in (s .lanes) (set flags i 0) i lanes-fit; gathered = whole-apart (s .phase) (not-false _ e) })
+      (λ e. regular-apart s (next-in (s .lanes) (set flags i 0) i lanes-fit) refl (whole-apart (s .phase) (not-false _ e)))

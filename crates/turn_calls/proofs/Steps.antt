@@ -75,15 +75,15 @@ module _ (l : Line) (book : List ℕ) (lanes-fit : l .lanes ≤ mostLanes) (ok :
 
   -- ---- 04
   module _ (c : ℕ) where
-    take-held : (q : Purpose) (v : Place) → Gives l (unchanged book) i (takeRest (stateOf l book) i c (Phase.Holding q v)) (takenBy own (l .view) (l .flag) i q v c)
+    take-held : (q : Purpose) (v : Place) → Gives l (unchanged book) i (takeRest (stateOf l book) i c (Phase.Holding q v)) (takenBy own (fits (l .view) (l .capacity) v c) (l .flag) i q v c)
     take-held Purpose.SharedWrite v = guarded l book (unchanged book) (λ k. refl) i 16 (not (fits (l .view) (l .capacity) v c)) {c = takenChange own (l .flag) i v c (writing c v)} (record { is = refl })
     take-held Purpose.SharedRead v = guarded l book (unchanged book) (λ k. refl) i 15 (ltb mostPointer (v .0 + c)) {c = takenChange own (l .flag) i v c (reading c v)} (record { is = refl })
     take-held Purpose.WholeBook v = refused-13
 
-    take-by : (x : Phase) → Gives l (unchanged book) i (takeRest (stateOf l book) i c x) (takenFrom own (l .view) (l .flag) i c x)
+    take-by : (x : Phase) → Gives l (unchanged book) i (takeRest (stateOf l book) i c x) (takenFrom own (fits (l .view) (l .capacity) (placeIn x) c) (l .flag) i c x)
     take-by x =
         by-test (isHolding x)
-        (λ h. subst (λ (y : Phase). Gives l (unchanged book) i (takeRest (stateOf l book) i c y) (takenFrom own (l .view) (l .flag) i c y)) (sym (holding-is x h)) (take-held (purposeIn x) (placeIn x)))
+        (λ h. subst (λ (y : Phase). Gives l (unchanged book) i (takeRest (stateOf l book) i c y) (takenFrom own (fits (l .view) (l .capacity) (placeIn y) c) (l .flag) i c y)) (sym (holding-is x h)) (take-held (purposeIn x) (placeIn x)))
         (λ h. rw h refused-13)
 
     pub take-step : callEvent (stateOf l book) (Event.Take i c) ≡ changed l (entryOf i) (laneTested seen i (takeChange seen (l .view) (l .flag) i c)) book

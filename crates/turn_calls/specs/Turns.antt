@@ -62,24 +62,28 @@ abbrev pub takenChange : Seen → List ℕ → ℕ → Place → ℕ → Phase �
 takenChange s flags i v c y = releasedTo s (Answer.Region v c (nextFor s flags i)) y (place (v .0 + c)) (nextFor s flags i)
 
 -- 16 where the records of a shared write do not fit
-abbrev pub takenToWrite : Seen → View → List ℕ → ℕ → Place → ℕ → Change
-takenToWrite s view flags i v c = cond (not (fits view (s .capacity) v c)) (refusedChange s 16) (takenChange s flags i v c (writing c v))
+abbrev pub takenToWrite : Seen → Bool → List ℕ → ℕ → Place → ℕ → Change
+takenToWrite s fitting flags i v c = cond (not fitting) (refusedChange s 16) (takenChange s flags i v c (writing c v))
 
 -- 15 where a shared read would put the pointer past its range
 abbrev pub takenToRead : Seen → List ℕ → ℕ → Place → ℕ → Change
 takenToRead s flags i v c = cond (ltb mostPointer (v .0 + c)) (refusedChange s 15) (takenChange s flags i v c (reading c v))
 
-abbrev pub takenBy : Seen → View → List ℕ → ℕ → Purpose → Place → ℕ → Change
-takenBy s view flags i Purpose.SharedWrite v c = takenToWrite s view flags i v c
-takenBy s view flags i Purpose.SharedRead v c = takenToRead s flags i v c
-takenBy s view flags i Purpose.WholeBook v c = refusedChange s 13
+abbrev pub takenBy : Seen → Bool → List ℕ → ℕ → Purpose → Place → ℕ → Change
+takenBy s fitting flags i Purpose.SharedWrite v c = takenToWrite s fitting flags i v c
+takenBy s fitting flags i Purpose.SharedRead v c = takenToRead s flags i v c
+takenBy s fitting flags i Purpose.WholeBook v c = refusedChange s 13
 
 -- 13 to a lane that does not hold
-abbrev pub takenFrom : Seen → View → List ℕ → ℕ → ℕ → Phase → Change
-takenFrom s view flags i c x = cond (isHolding x) (takenBy s view flags i (purposeIn x) (placeIn x) c) (refusedChange s 13)
+abbrev pub takenFrom : Seen → Bool → List ℕ → ℕ → ℕ → Phase → Change
+takenFrom s fitting flags i c x = cond (isHolding x) (takenBy s fitting flags i (purposeIn x) (placeIn x) c) (refusedChange s 13)
+
+-- the records fit from the place that the lane holds
+abbrev pub takeFits : View → Seen → ℕ → Bool
+takeFits view s c = fits view (s .capacity) (placeIn (s .phase)) c
 
 abbrev pub takeChange : Seen → View → List ℕ → ℕ → ℕ → Change
-takeChange s view flags i c = takenFrom s view flags i c (s .phase)
+takeChange s view flags i c = takenFrom s (takeFits view s c) flags i c (s .phase)
 
 -- ---- 09
 abbrev pub freedChange : Seen → List ℕ → ℕ → Change

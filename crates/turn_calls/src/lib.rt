@@ -3,7 +3,7 @@ ghost use Prim.Native.Nat.{_≤_};
 ghost use mathlib.Core.Path.{_≡_};
 ghost use Rattle.limits.specs.Limits.{mostPointer};
 ghost use Rattle.line.specs.Line.{placeIn};
-ghost use Rattle.turn_calls.specs.Turns.{freeChange, movedTo, receiveChange, releasedTo, takeChange, takenChange, takenBy, takenToRead, takenToWrite, wantChange, wanted};
+ghost use Rattle.turn_calls.specs.Turns.{freeChange, movedTo, receiveChange, releasedTo, takenBy, takenChange, takenFrom, takenToRead, takenToWrite, wantChange, wanted};
 use changes::Change;
 use changes::Seen;
 use changes::phases::purpose_of;
@@ -16,7 +16,6 @@ use line::Phase;
 use line::Purpose;
 use steps::Answer;
 use view::Place;
-use view::View;
 use waitlist::Wakes;
 
 // The last place that the pointer takes, as a sum of 64 bits.
@@ -134,16 +133,16 @@ fn take_region(
 // The take of a shared write, whose records must fit.
 fn take_to_write(
     seen: Seen,
-    view: View,
+    fitting: bool,
     flags: &[u8; MOST_LANES],
     lane: u8,
     start: Place,
     count: u16,
 ) -> Change
     requires { ⌜ start .0 ≤ mostPointer ⌝ }
-    ensures { λ r. ⌜ r ≡ takenToWrite seen view (now (flags .entry)) lane start count ⌝ }
+    ensures { λ r. ⌜ r ≡ takenToWrite seen fitting (now (flags .entry)) lane start count ⌝ }
 {
-    if !view.fits(seen.capacity, start, count as u32) {
+    if !fitting {
         return refuse(seen, 16);
     }
     take_region(seen, flags, lane, start, count, to_write(count, start))
@@ -163,7 +162,7 @@ fn take_to_read(seen: Seen, flags: &[u8; MOST_LANES], lane: u8, start: Place, co
 // The take of a lane that holds: of a region for a shared purpose, and refused for the whole book.
 fn take_by(
     seen: Seen,
-    view: View,
+    fitting: bool,
     flags: &[u8; MOST_LANES],
     lane: u8,
     purpose: Purpose,
@@ -171,23 +170,29 @@ fn take_by(
     count: u16,
 ) -> Change
     requires { ⌜ start .0 ≤ mostPointer ⌝ }
-    ensures { λ r. ⌜ r ≡ takenBy seen view (now (flags .entry)) lane purpose start count ⌝ }
+    ensures { λ r. ⌜ r ≡ takenBy seen fitting (now (flags .entry)) lane purpose start count ⌝ }
 {
     match purpose {
-        Purpose::SharedWrite => take_to_write(seen, view, flags, lane, start, count),
+        Purpose::SharedWrite => take_to_write(seen, fitting, flags, lane, start, count),
         Purpose::SharedRead => take_to_read(seen, flags, lane, start, count),
         Purpose::WholeBook => refuse(seen, 13),
     }
 }
 
-// 04: a holder for a shared purpose takes a region and releases.
-pub fn take(seen: Seen, view: View, flags: &[u8; MOST_LANES], lane: u8, count: u16) -> Change
+// 04: a holder for a shared purpose takes a region and releases; `fitting` is whether its records fit from the place that it holds.
+pub fn take(
+    seen: Seen,
+    fitting: bool,
+    flags: &[u8; MOST_LANES],
+    lane: u8,
+    count: u16,
+) -> Change
     requires { ⌜ placeIn (seen .phase) .0 ≤ mostPointer ⌝ }
-    ensures { λ r. ⌜ r ≡ takeChange seen view (now (flags .entry)) lane count ⌝ }
+    ensures { λ r. ⌜ r ≡ takenFrom seen fitting (now (flags .entry)) lane count (seen .phase) ⌝ }
 {
     let phase = seen.phase;
     match phase {
-        Phase::Holding(purpose, value) => take_by(seen, view, flags, lane, purpose, value, count),
+        Phase::Holding(purpose, value) => take_by(seen, fitting, flags, lane, purpose, value, count),
         _ => refuse(seen, 13),
     }
 }

@@ -82,10 +82,13 @@ recordInTile v k = blockRecord (usedBlocks v) ((k .0) % shown v)
 unfoldable pub positionOf : View → Place → Position
 positionOf v k = position (v .displacement + 8 * (tileOf v k * v .extent + recordInTile v k))
 
--- the position of a place that is a number of 32 bits, which is far below 2^64
+-- past any position of a place that is a number of 32 bits, and far below 2^64
+abbrev pub mostPosition : ℕ
+mostPosition = 9007199254740992
+
 pub record Positioned (v : View) (k : Place) (r : Position) : Type 0 where
   pub is : r ≡ positionOf v k
-  pub below : r .0 < 9007199254740992
+  pub below : r .0 < mostPosition
 
 -- where the record at a place ends, in bytes
 abbrev pub recordEnd : View → Place → ℕ

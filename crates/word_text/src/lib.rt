@@ -56,6 +56,24 @@ pub fn put_number(out: &mut [u8], at: usize, n: u64, after: u8) -> usize
     end + 1
 }
 
+// The same for a number that mostly has one or two digits, such as a lane's: small enough to be inlined where it is used.
+pub fn put_count(out: &mut [u8], at: usize, n: u64, after: u8) -> usize
+    requires { ⌜ at + length (decimal n) < length (now out) ⌝ }
+    ensures { λ r. ⌜ Stored (decimal n ++ after ∷ []) (now (out .entry)) at (now (out .exit)) r ⌝ }
+{
+    if n < 10 {
+        out[at] = b'0' + n as u8;
+        out[at + 1] = after;
+        return at + 2;
+    }
+    if n < 100 {
+        let end = number_text::put_pair(out, at, n);
+        out[end] = after;
+        return end + 1;
+    }
+    put_number(out, at, n, after)
+}
+
 // A line of a word and a number.
 pub fn put_one(out: &mut [u8], at: usize, word: &[u8], n: u64) -> usize
     requires { ⌜ at + length (words (now word ∷ decimal n ∷ [])) ≤ length (now out) ⌝ }
@@ -63,6 +81,15 @@ pub fn put_one(out: &mut [u8], at: usize, word: &[u8], n: u64) -> usize
 {
     let next = put_word(out, at, word, BLANK);
     put_number(out, next, n, LINE_END)
+}
+
+// A line of a word and a number that mostly has one or two digits.
+pub fn put_counted(out: &mut [u8], at: usize, word: &[u8], n: u64) -> usize
+    requires { ⌜ at + length (words (now word ∷ decimal n ∷ [])) ≤ length (now out) ⌝ }
+    ensures { λ r. ⌜ Stored (words (now (word .entry) ∷ decimal n ∷ [])) (now (out .entry)) at (now (out .exit)) r ⌝ }
+{
+    let next = put_word(out, at, word, BLANK);
+    put_count(out, next, n, LINE_END)
 }
 
 // A line of a word and two numbers.
@@ -92,7 +119,7 @@ fn put_wakes(out: &mut [u8], at: usize, wakes: Wakes) -> usize
     ensures { λ r. ⌜ Stored (words (wakesWords wakes)) (now (out .entry)) at (now (out .exit)) r ⌝ }
 {
     match wakes {
-        Wakes::Lane(i) => put_one(out, at, b"wakes", wide8(i)),
+        Wakes::Lane(i) => put_counted(out, at, b"wakes", wide8(i)),
         Wakes::None => put_word(out, at, b"wakes none", LINE_END),
     }
 }
@@ -104,7 +131,7 @@ pub fn put_region(out: &mut [u8], at: usize, start: u64, count: u64, wakes: Wake
 {
     let first = put_word(out, at, b"region", BLANK);
     let second = put_number(out, first, start, BLANK);
-    let third = put_number(out, second, count, BLANK);
+    let third = put_count(out, second, count, BLANK);
     put_wakes(out, third, wakes)
 }
 

@@ -1,42 +1,38 @@
 -- `decide` meets its contract: the tests of the lane, and past them what `decide_at` gives.
-use borrow.Author.Tests.{eq-eqb, le-leb, lt-leb, ne-eqb}
+use mathlib.Core.Path.{sym, _∙_}
+use Rattle.changes.proofs.Steps.{lane-missing, lane-there}
 use Rattle.lane_calls.specs.Decided.{decidedChange}
 use Rattle.lane_calls.proofs.Refused.{refused-book}
 use borrow.Author.Needs.{needs}
 use Rattle.lane_calls.proofs.decide.Statement.{statement}
 use Rattle.lane_calls.proofs.decide.Tie as tie
 
-abbrev start : tie.After-struct-known → tie.Start
-start c = c .before .before
-
 returns : tie.Need-returns
 unfolding decidedChange
 returns c =
-    let a = start (c .before .before) .args in
-    record { is = rw (eq-eqb _ _ (c .before .if1 .taken)) (c .refuse .ensures); book-left = rw (c .refuse .ensures) (refused-book (a .call) (a .book .now) 4) }
+    let m = c .before .before in
+    let a = m .before .before .args in
+    record {
+      is = c .refuse .ensures ∙ rw (m .missing-lane .ensures) (sym (lane-missing (a .seen) (a .lane) _ (λ z. c .before .if1 .taken (m .missing-lane .ensures ∙ z))));
+      book-left = rw (c .refuse .ensures) (refused-book (a .call) (a .book .now) _);
+    }
 
 returns-2 : tie.Need-returns-2
 unfolding decidedChange
 returns-2 c =
-    let e = c .before .before .before in
-    let a = start (e .before) .args in
-    record { is = rw (ne-eqb _ _ (e .if1 .left), le-leb _ _ (c .before .if2 .taken)) (c .refuse2 .ensures); book-left = rw (c .refuse2 .ensures) (refused-book (a .call) (a .book .now) 8) }
-
-returns-3 : tie.Need-returns-3
-unfolding decidedChange
-returns-3 c =
     let d = c .before .before in
-    let f = d .before .before in
-    record { is = rw (ne-eqb _ _ (f .before .before .if1 .left), lt-leb _ _ (f .if2 .left)) (d .decide-at .ensures .is); book-left = d .decide-at .ensures .book-left }
+    let e = d .before .before in
+    let m = e .before in
+    let a = m .before .before .args in
+    record { is = d .decide-at .ensures .is ∙ sym (lane-there (a .seen) (a .lane) _ (sym (m .missing-lane .ensures) ∙ e .if1 .left)); book-left = d .decide-at .ensures .book-left }
 
 pub decide-spec : {M : Type 1} → statement M
 decide-spec =
     tie.close
     (tie.spec
     (λ c κs. search needs)
+    (λ c κs. search needs)
     returns
     (λ c κs. search needs)
-    returns-2
-    (λ c κs. search needs)
     (λ c. search needs)
-    returns-3)
+    returns-2)

@@ -1,76 +1,152 @@
--- `number_text::put_hex` meets its contract: the digits left, stored from where the loop stands, give what all digits give.
-use Prim.Native.Nat.{_+_, _-_, _/_, _^_, _≤_, _<_}
-use mathlib.Core.Path.{_≡_, refl, _∙_}
-use native.Mathlib.Nat.{add-zero}
+-- `number_text::put_hex` meets its contract: a store adds its digit to those that stand already.
+use Prim.Native.Nat.{ℕ, suc, _+_, _-_, _/_, _%_, _^_, _<_}
+use mathlib.Core.Bool.{true}
+use mathlib.Core.Path.{_≡_, refl}
+use mathlib.Core.List.{List}
 use native.Mathlib.Omega.{arith}
-use lib.ListN.{length, length-set}
-use lib.Seq.{sets}
-use Rattle.lists.proofs.Sets.{sets-more}
-use Rattle.printout.specs.Print.{hexIn}
-use Rattle.number_text.proofs.Hex.{digit-small, hex-length, hex-more, rest-small, unit-next, unit-some}
+use native.Mathlib.Nat.{div-one}
+use lib.Dec.{leb, ltb}
+use lib.ListN.{length, set}
+use mir.Syntax.{w64}
+use mir.Val.{Fits}
+use Rattle.printout.specs.Print.{hexDigit}
+use Rattle.number_text.proofs.Hex.{digit-below, first-stored, firstDigits, hex-first, next-stored}
+use Rattle.number_text.proofs.Stores.{stored-length}
+use Rattle.number_text.specs.Stored.{Stored}
 use borrow.Author.Needs.{needs}
+use borrow.Author.Tests.{leb-true, ltb-true}
 use Rattle.number_text.proofs.put_hex.Statement.{statement}
 use Rattle.number_text.proofs.put_hex.Tie as tie
 
-abbrev Inv-loop : tie.InvT-loop
-Inv-loop out₀ at n rest₀ unit₀ i₀ out rest unit i =
-    (sets out (at + i) (hexIn (16 - i) rest) ≡ sets out₀ at (hexIn 16 n))
-    × (length out ≡ length out₀)
-    × (i ≤ 16)
-    × (unit ≡ 16 ^ (16 - i) / 16)
-    × (rest < 16 ^ (16 - i))
+-- ---- where the function began, and the buffer with so many digits stored
+record Place (digits : ℕ) : Type 0 where
+  start : tie.After-slice-known
+  after : List ℕ
+  stored : let a = start .before .args in Stored (firstDigits digits (a .n)) (a .out .now) (a .at) after (a .at + digits)
 
-abbrev μ-loop : tie.MeasureT-loop
-μ-loop out₀ at n rest₀ unit₀ i₀ out rest unit i = 16 - i
+abbrev next : {k : ℕ} (p : Place k) (d : ℕ) → d ≡ hexDigit (p .start .before .args .n / 16 ^ (15 - k) % 16) → Place (suc k)
+next {k} p d same =
+    let a = p .start .before .args in
+    record { start = p .start; after = set (p .after) (a .at + k) d; stored = next-stored (a .n) k d (p .stored) same }
 
-loop-holds : tie.Need-loop-holds Inv-loop μ-loop
-loop-holds c = (rw add-zero, refl, omega arith, refl, omega arith)
+-- the index of the next digit; looked for at the start, since among all that is known at a late place the search is slow
+next-fits : {k : ℕ} (p : Place k) → leb k 16 ≡ true → Fits w64 (p .start .before .args .at + k)
+next-fits {k} p few = let s = p .start in let most = leb-true k 16 few in search needs
 
-div-hex-digit : tie.Need-div-hex-digit Inv-loop μ-loop
-div-hex-digit c = let lp = c .before .loop in unit-some (lp .i) (lp .rest) (lp .unit) (c .loop-test .taken) (lp .inv .3)
+next-below : {k : ℕ} (p : Place k) → ltb k 16 ≡ true → p .start .before .args .at + k < length (p .after)
+next-below {k} p few = omega (arith, ltb-true k 16 few, stored-length (p .stored), p .start .before .pre)
 
-hex-digit-requires : tie.Need-hex-digit-requires Inv-loop μ-loop
-hex-digit-requires c κs = let lp = c .before .loop in digit-small (lp .i) (lp .rest) (lp .unit) (c .loop-test .taken) (lp .inv .3) (lp .inv .4)
+-- ---- the buffer once the first digit is stored, the second, and so on
+abbrev at-1 : tie.After-hex-digit → Place 1
+at-1 c =
+    let a = c .before .before .args in
+    let d = c .hex-digit in
+    record { start = c .before; after = set (a .out .now) (a .at) (d .result); stored = first-stored (a .out .now) (a .at) (a .n) (d .result) (d .ensures) }
 
-rem-rest : tie.Need-rem-rest Inv-loop μ-loop
-rem-rest c = let lp = c .before .before .loop in unit-some (lp .i) (lp .rest) (lp .unit) (c .before .loop-test .taken) (lp .inv .3)
+abbrev at-2 : tie.After-hex-digit2 → Place 2
+at-2 c = next (at-1 (c .before)) (c .hex-digit2 .result) (c .hex-digit2 .ensures)
 
-loop-again : tie.Need-loop-again Inv-loop μ-loop
-loop-again c =
-    let t = c .before in
-    let lp = t .before .loop in
-    let a = t .before .before .before .args in
-    let more = hex-more (lp .i) (lp .rest) (lp .unit) (t .loop-test .taken) (lp .inv .3) in (
-      rw (c .hex-digit .ensures) (sets-more (lp .out) (a .at) (lp .i) more ∙ lp .inv .0),
-      simp length-set (lp .inv .1),
-      omega arith,
-      unit-next (lp .i) (lp .rest) (lp .unit) (t .loop-test .taken) (lp .inv .3),
-      rest-small (lp .i) (lp .rest) (lp .unit) (t .loop-test .taken) (lp .inv .3),
-    )
+abbrev at-3 : tie.After-hex-digit3 → Place 3
+at-3 c = next (at-2 (c .before)) (c .hex-digit3 .result) (c .hex-digit3 .ensures)
 
-returns : tie.Need-returns Inv-loop μ-loop
-unfolding hexIn
+abbrev at-4 : tie.After-hex-digit4 → Place 4
+at-4 c = next (at-3 (c .before)) (c .hex-digit4 .result) (c .hex-digit4 .ensures)
+
+abbrev at-5 : tie.After-hex-digit5 → Place 5
+at-5 c = next (at-4 (c .before)) (c .hex-digit5 .result) (c .hex-digit5 .ensures)
+
+abbrev at-6 : tie.After-hex-digit6 → Place 6
+at-6 c = next (at-5 (c .before)) (c .hex-digit6 .result) (c .hex-digit6 .ensures)
+
+abbrev at-7 : tie.After-hex-digit7 → Place 7
+at-7 c = next (at-6 (c .before)) (c .hex-digit7 .result) (c .hex-digit7 .ensures)
+
+abbrev at-8 : tie.After-hex-digit8 → Place 8
+at-8 c = next (at-7 (c .before)) (c .hex-digit8 .result) (c .hex-digit8 .ensures)
+
+abbrev at-9 : tie.After-hex-digit9 → Place 9
+at-9 c = next (at-8 (c .before)) (c .hex-digit9 .result) (c .hex-digit9 .ensures)
+
+abbrev at-10 : tie.After-hex-digit10 → Place 10
+at-10 c = next (at-9 (c .before)) (c .hex-digit10 .result) (c .hex-digit10 .ensures)
+
+abbrev at-11 : tie.After-hex-digit11 → Place 11
+at-11 c = next (at-10 (c .before)) (c .hex-digit11 .result) (c .hex-digit11 .ensures)
+
+abbrev at-12 : tie.After-hex-digit12 → Place 12
+at-12 c = next (at-11 (c .before)) (c .hex-digit12 .result) (c .hex-digit12 .ensures)
+
+abbrev at-13 : tie.After-hex-digit13 → Place 13
+at-13 c = next (at-12 (c .before)) (c .hex-digit13 .result) (c .hex-digit13 .ensures)
+
+abbrev at-14 : tie.After-hex-digit14 → Place 14
+at-14 c = next (at-13 (c .before)) (c .hex-digit14 .result) (c .hex-digit14 .ensures)
+
+abbrev at-15 : tie.After-hex-digit15 → Place 15
+at-15 c = next (at-14 (c .before)) (c .hex-digit15 .result) (c .hex-digit15 .ensures)
+
+abbrev at-16 : tie.After-hex-digit16 → Place 16
+at-16 c =
+    let p = at-15 (c .before) in
+    next p (c .hex-digit16 .result) (rw (← div-one (p .start .before .args .n)) at (c .hex-digit16 .ensures))
+
+returns : tie.Need-returns
 returns c =
-    let lp = c .before .loop in
-    let a = c .before .before .before .args in
-    let end : lp .i ≡ 16 = omega arith in
-    record { bytes = rw end at (lp .inv .0); ends = rw (hex-length 16 (a .n)) }
+    let p = at-16 c in
+    let s = p .start .before in
+    rw (hex-first (s .args .n) (omega (arith, s .fits .n))) (p .stored)
 
 pub put-hex-spec : {M : Type 1} → statement M
 put-hex-spec =
     tie.close
     (tie.spec
-    Inv-loop
-    μ-loop
-    loop-holds
-    div-hex-digit
-    hex-digit-requires
+    (λ c κs. digit-below _)
     (λ c. search needs)
-    (λ c. search needs)
-    rem-rest
-    (λ c. search needs)
-    (λ c. search needs)
-    loop-again
-    (λ c. search needs)
-    (λ c. search needs)
+    (λ c κs. digit-below _)
+    (λ c. next-fits (at-1 (c .before)) refl)
+    (λ c. next-below (at-1 (c .before)) refl)
+    (λ c κs. digit-below _)
+    (λ c. next-fits (at-2 (c .before)) refl)
+    (λ c. next-below (at-2 (c .before)) refl)
+    (λ c κs. digit-below _)
+    (λ c. next-fits (at-3 (c .before)) refl)
+    (λ c. next-below (at-3 (c .before)) refl)
+    (λ c κs. digit-below _)
+    (λ c. next-fits (at-4 (c .before)) refl)
+    (λ c. next-below (at-4 (c .before)) refl)
+    (λ c κs. digit-below _)
+    (λ c. next-fits (at-5 (c .before)) refl)
+    (λ c. next-below (at-5 (c .before)) refl)
+    (λ c κs. digit-below _)
+    (λ c. next-fits (at-6 (c .before)) refl)
+    (λ c. next-below (at-6 (c .before)) refl)
+    (λ c κs. digit-below _)
+    (λ c. next-fits (at-7 (c .before)) refl)
+    (λ c. next-below (at-7 (c .before)) refl)
+    (λ c κs. digit-below _)
+    (λ c. next-fits (at-8 (c .before)) refl)
+    (λ c. next-below (at-8 (c .before)) refl)
+    (λ c κs. digit-below _)
+    (λ c. next-fits (at-9 (c .before)) refl)
+    (λ c. next-below (at-9 (c .before)) refl)
+    (λ c κs. digit-below _)
+    (λ c. next-fits (at-10 (c .before)) refl)
+    (λ c. next-below (at-10 (c .before)) refl)
+    (λ c κs. digit-below _)
+    (λ c. next-fits (at-11 (c .before)) refl)
+    (λ c. next-below (at-11 (c .before)) refl)
+    (λ c κs. digit-below _)
+    (λ c. next-fits (at-12 (c .before)) refl)
+    (λ c. next-below (at-12 (c .before)) refl)
+    (λ c κs. digit-below _)
+    (λ c. next-fits (at-13 (c .before)) refl)
+    (λ c. next-below (at-13 (c .before)) refl)
+    (λ c κs. digit-below _)
+    (λ c. next-fits (at-14 (c .before)) refl)
+    (λ c. next-below (at-14 (c .before)) refl)
+    (λ c κs. digit-below _)
+    (λ c. next-fits (at-15 (c .before)) refl)
+    (λ c. next-below (at-15 (c .before)) refl)
+    (λ c. next-fits (at-16 c) refl)
+    (λ c. stored-length (returns c))
     returns)

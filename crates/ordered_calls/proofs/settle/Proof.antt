@@ -1,14 +1,21 @@
--- `settle` meets its contract: the test whether all N are in.
+-- `settle` meets its contract: by what the enter comes to.
 use borrow.Author.Needs.{needs}
-use borrow.Author.Tests.{eq-eqb, ne-eqb}
 use Rattle.ordered_calls.proofs.settle.Statement.{statement}
 use Rattle.ordered_calls.proofs.settle.Tie as tie
 
+complete-requires : tie.Need-complete-requires
+complete-requires c κs = c .before .before .pre (c .enum-told2 .given .1)
+
 returns : tie.Need-returns
-returns c = rw (ne-eqb _ _ (c .if1 .taken))
+returns c = rw (c .before .before .came .given .1) (c .refuse .ensures)
 
 returns-2 : tie.Need-returns-2
-returns-2 c = rw (eq-eqb _ _ (c .before .before .before .if1 .left), c .before .start-all .ensures)
+returns-2 c = rw (c .enum-told .given .1)
+
+returns-3 : tie.Need-returns-3
+returns-3 c = rw (c .before .enum-told2 .given .1) (c .complete .ensures)
 
 pub settle-spec : {M : Type 1} → statement M
-settle-spec = tie.close (tie.spec (λ c. search needs) returns (λ c κs. search needs) (λ c. search needs) returns-2)
+settle-spec =
+    tie.close
+    (tie.spec (λ c. search needs) (λ c κs. search needs) (λ c. search needs) (λ c. search needs) complete-requires returns returns-2 returns-3)

@@ -25,7 +25,7 @@ returns c =
     let a = told .before .before .before .args in
     let next = told .phase .given .0 .1 .0 in
     let after = w .to-read .ensures ∙ ap (λ (n : ℕ). reading n (place (next .0 + 1))) (o .one-less .ensures) in
-    c .find-at .ensures ∙ ap (recordFound (a .seen) (a .view) (a .book .now) next) after ∙ sym (ap (readBy (a .seen) (a .view) (a .book .now)) (told .phase .given .1))
+    c .find-at .ensures ∙ ap (recordFound (a .seen) (a .position) (a .book .now)) after ∙ sym (ap (readBy (a .seen) (a .position) (a .book .now)) (told .phase .given .1))
 
 returns-2 : tie.Need-returns-2
 returns-2 c =

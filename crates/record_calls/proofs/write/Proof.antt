@@ -2,9 +2,9 @@
 use Prim.Native.Nat.{ℕ, _+_}
 use mathlib.Core.Path.{ap, sym, _∙_}
 use native.Mathlib.Omega.{arith}
+use borrow.Author.Tests.{leb-true}
 use Rattle.view.specs.View.{place}
 use Rattle.steps.specs.Effects.{writing}
-use Rattle.steps.proofs.Keeps.{record-ends}
 use Rattle.changes.proofs.Arms.{not-writing}
 use Rattle.record_calls.specs.Records.{recordPut, writtenBy}
 use borrow.Author.Needs.{needs}
@@ -22,7 +22,7 @@ put-at-requires : tie.Need-put-at-requires
 put-at-requires c κs =
     let told = c .before .before .before .before in
     let s = told .before .before in
-    record-ends (s .args .view) (s .args .seen .capacity) (told .phase .given .0 .1 .0) (rw (told .phase .given .1) at (s .pre .1))
+    leb-true _ _ (rw (told .phase .given .1) at (s .pre .1))
 
 returns : tie.Need-returns
 returns c =
@@ -32,7 +32,7 @@ returns c =
     let a = told .before .before .args in
     let next = told .phase .given .0 .1 .0 in
     let after = w .to-write .ensures ∙ ap (λ (n : ℕ). writing n (place (next .0 + 1))) (o .one-less .ensures) in
-    c .put-at .ensures ∙ ap (recordPut (a .seen) (a .view) next) after ∙ sym (ap (writtenBy (a .seen) (a .view)) (told .phase .given .1))
+    c .put-at .ensures ∙ ap (recordPut (a .seen) (a .position)) after ∙ sym (ap (writtenBy (a .seen) (a .position)) (told .phase .given .1))
 
 returns-2 : tie.Need-returns-2
 returns-2 c =

@@ -15,7 +15,7 @@ returns : tie.Need-returns
 returns c =
     let told = c .before .before in
     let a = told .before .before .args in
-    c .take-by .ensures ∙ sym (ap (takenFrom (a .seen) (a .view) (a .flags .now) (a .lane) (a .count)) (told .phase .given .1))
+    c .take-by .ensures ∙ sym (ap (takenFrom (a .seen) (a .fitting) (a .flags .now) (a .lane) (a .count)) (told .phase .given .1))
 
 returns-2 : tie.Need-returns-2
 returns-2 c =

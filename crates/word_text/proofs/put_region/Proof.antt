@@ -24,8 +24,8 @@ put-number-requires c κs =
       past (ascii "region") _ (call .put-word .ensures),
     )
 
-put-number-requires-2 : tie.Need-put-number-requires-2
-put-number-requires-2 c κs =
+put-count-requires : tie.Need-put-count-requires
+put-count-requires c κs =
     let call2 = c .before .before .before in
     let call1 = call2 .before .before .before .before in
     let s = call1 .before .before .before .before in
@@ -53,7 +53,7 @@ put-wakes-requires c κs =
       region-length start count (s .args .wakes),
       past (ascii "region") _ (call1 .put-word .ensures),
       past start _ (call2 .put-number .ensures),
-      past count _ (call3 .put-number2 .ensures),
+      past count _ (call3 .put-count .ensures),
     )
 
 returns : tie.Need-returns
@@ -65,7 +65,7 @@ returns c =
     let call1 = call2 .before .before .before .before in
     let s = call1 .before .before .before .before in
     rw (before-wakes (decimal (s .args .count)) (s .args .wakes))
-    (and-then (call1 .put-word .ensures) (and-then (call2 .put-number .ensures) (and-then (call3 .put-number2 .ensures) (call4 .put-wakes .ensures))))
+    (and-then (call1 .put-word .ensures) (and-then (call2 .put-number .ensures) (and-then (call3 .put-count .ensures) (call4 .put-wakes .ensures))))
 
 pub put-region-spec : {M : Type 1} → statement M
 put-region-spec =
@@ -74,7 +74,7 @@ put-region-spec =
     (λ c. search needs)
     put-word-requires
     put-number-requires
-    put-number-requires-2
+    put-count-requires
     put-wakes-requires
     (λ c. search needs)
     returns)

@@ -5,8 +5,8 @@ use borrow.Author.Needs.{needs}
 use Rattle.word_text.proofs.put_wakes.Statement.{statement}
 use Rattle.word_text.proofs.put_wakes.Tie as tie
 
-put-one-requires : tie.Need-put-one-requires
-put-one-requires c κs =
+put-counted-requires : tie.Need-put-counted-requires
+put-counted-requires c κs =
     let told = c .before .before .before .before in
     rw (c .wide8 .ensures) (rw (told .wakes .given .1) at (told .before .before .before .pre))
 
@@ -21,7 +21,7 @@ returns : tie.Need-returns
 returns c =
     let call = c .before .before in
     let wide = call .before in
-    rw (wide .before .before .before .before .wakes .given .1) (rw (wide .wide8 .ensures) at (call .put-one .ensures))
+    rw (wide .before .before .before .before .wakes .given .1) (rw (wide .wide8 .ensures) at (call .put-counted .ensures))
 
 returns-2 : tie.Need-returns-2
 unfolding words
@@ -36,7 +36,7 @@ put-wakes-spec =
     (λ c. search needs)
     (λ c. search needs)
     (λ c κs. search needs)
-    put-one-requires
+    put-counted-requires
     (λ c. search needs)
     (λ c. search needs)
     put-word-requires

@@ -1,0 +1,2 @@
+-- What the line of an answer to a lane's call is held to.
+pub mod Put

@@ -1,0 +1,2 @@
+-- The steps that a number refuses.
+pub mod Steps

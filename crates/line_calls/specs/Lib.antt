@@ -1,0 +1,2 @@
+-- What refuses a call on the whole line.
+pub mod Refusal

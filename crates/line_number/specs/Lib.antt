@@ -1,0 +1,2 @@
+-- What a line's number is held to.
+pub mod Numbered

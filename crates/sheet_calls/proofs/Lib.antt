@@ -1,0 +1,3 @@
+-- The laws of a lane's call of a sheet.
+pub mod Tables
+pub mod Rans

@@ -1,0 +1,32 @@
+-- `call_receive` meets its contract: decided and printed.
+use Prim.Native.Nat.{ℕ, _≤_}
+use mathlib.Core.Path.{refl}
+use mathlib.Core.List.{List, []}
+use lib.ListN.{length}
+use Rattle.tiling.specs.declared.Tiling.{Tiling}
+use Rattle.scopes.specs.declared.LaneCall.{LaneCall}
+use Rattle.lane_calls.specs.Decided.{bookDecided}
+use Rattle.call_head.proofs.Heads.{nothing-there}
+use Rattle.sheet_calls.specs.Calls.{tableDecided}
+use Rattle.sheet_calls.proofs.Rans.{ran-with}
+use borrow.Author.Needs.{needs}
+use Rattle.sheet_calls.proofs.turns.call_receive.Statement.{statement}
+use Rattle.sheet_calls.proofs.turns.call_receive.Tie as tie
+
+returns : tie.Need-returns
+unfolding tableDecided bookDecided
+returns c =
+    let put = c .before .before .before in
+    let change = put .before .before in
+    λ (lane : ℕ) (t : Tiling) (records flags book sheet : List ℕ) (inside : _ ≤ length sheet). ran-with LaneCall.Receive [] (c .call-with .ensures)
+    (nothing-there sheet _ inside) refl (change .receive .ensures) refl (put .put-received .ensures)
+
+pub call-receive-spec : {M : Type 1} → statement M
+call-receive-spec =
+    tie.close
+    (tie.spec
+    (λ c κs. search needs)
+    (λ c κs. search needs)
+    (λ c κs. search needs)
+    (λ c. search needs)
+    returns)

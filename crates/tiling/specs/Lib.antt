@@ -1,0 +1,2 @@
+-- What a position needs of a view.
+pub mod Tiling
