@@ -81,9 +81,63 @@ fn eight_digits(number: u32) -> u64 {
     tens | (pairs - tens * 10) << 8
 }
 
-/// A number below 10,000,000 in decimal with a byte after it, and the length of both.
+/// The four decimal digits of a number below 10,000, in the same way.
+#[inline(always)]
+fn four_digits(number: u32) -> u64 {
+    let hundreds = (number * 5_243) >> 19;
+    let pairs = hundreds as u64 | ((number - hundreds * 100) as u64) << 16;
+    let tens = ((pairs * 103) >> 10) & 0x000F_000F;
+    tens | (pairs - tens * 10) << 8
+}
+
+/// The two decimal digits of a number below 100, in the same way.
+#[inline(always)]
+fn two_digits(number: u32) -> u64 {
+    let tens = (number * 103) >> 10;
+    (tens | (number - tens * 10) << 8) as u64
+}
+
+/// The last `length` of `all` digits as text with a byte after them, and the length of both. At
+/// most seven are shown, so that the byte after has its place.
+#[inline(always)]
+fn last_digits(digits: u64, all: usize, length: usize, after: u8) -> (u64, usize) {
+    let text = (digits | 0x3030_3030_3030_3030) >> (8 * (all - length));
+    let shown = text & ((1 << (8 * length)) - 1);
+    (shown | (after as u64) << (8 * length), length + 1)
+}
+
+/// A number below 10,000,000 in decimal with a byte after it, and the length of both. The length
+/// is found by branches: neighbouring lines take the same ones, so that neither the digits nor
+/// what is stored after them wait for the length. A short number is cut fewer times, too.
 #[inline(always)]
 fn decimal(number: u32, after: u8) -> (u64, usize) {
+    if number < 10 {
+        return last_digits(number as u64, 1, 1, after);
+    }
+    if number < 100 {
+        return last_digits(two_digits(number), 2, 2, after);
+    }
+    if number < 1_000 {
+        return last_digits(four_digits(number), 4, 3, after);
+    }
+    if number < 10_000 {
+        return last_digits(four_digits(number), 4, 4, after);
+    }
+    let digits = eight_digits(number);
+    if number < 100_000 {
+        return last_digits(digits, 8, 5, after);
+    }
+    if number < 1_000_000 {
+        return last_digits(digits, 8, 6, after);
+    }
+    last_digits(digits, 8, 7, after)
+}
+
+/// The same without branches: the length is read off the digits. It is for the line's number,
+/// which is made anew every tenth line; with branches there too, the sheet of refusals took a
+/// tenth longer.
+#[inline(always)]
+fn decimal_without_branches(number: u32, after: u8) -> (u64, usize) {
     let digits = eight_digits(number);
     // Leading zeros are low bytes; the last digit stays.
     let leading = (digits | 1 << 56).trailing_zeros() / 8;
@@ -167,7 +221,7 @@ impl<'a, const PLAIN: bool> Text<'a, PLAIN> {
     /// The stamp of the line after one whose number ends in 9.
     #[inline(always)]
     fn stamp_ten(&mut self) {
-        let (stamp, length) = decimal(self.ten, b' ');
+        let (stamp, length) = decimal_without_branches(self.ten, b' ');
         self.stamp = stamp;
         self.stamp_length = length;
         self.one = 1 << (8 * (length - 2));

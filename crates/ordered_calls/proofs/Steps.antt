@@ -39,10 +39,10 @@ fitting-passed false last e = clash (sym e)
 refused-not : {X : Type 0} (k : ℕ) → isAccepted (Entered.Refused k) ≡ true → X
 refused-not k e = clash (sym e)
 
-abbrev Tests : Phase → Bool → Bool → Type 0
+abbrev pub Tests : Phase → Bool → Bool → Type 0
 Tests x calm fitting = (calm ≡ true) × (isIdle x ≡ true) × (fitting ≡ true)
 
-tests-passed : (x : Phase) (calm fitting last : Bool) → isAccepted (admitted x calm fitting last) ≡ true → Tests x calm fitting
+pub tests-passed : (x : Phase) (calm fitting last : Bool) → isAccepted (admitted x calm fitting last) ≡ true → Tests x calm fitting
 tests-passed x false fitting last e = refused-not 11 e
 tests-passed x true fitting last e =
     by-test (isIdle x)

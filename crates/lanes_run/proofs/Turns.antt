@@ -1,0 +1,280 @@
+-- A turn of a run by a call of a lane: it is one event of the run.
+use Prim.Native.Nat.{ℕ, _+_, _≤_, _<_}
+use mathlib.Core.Path.{_≡_, refl, sym, ap, _∙_, subst}
+use mathlib.Core.Bool.{Bool, true, false, false≢true}
+use mathlib.Core.List.{List, [], _∷_}
+use native.Mathlib.Omega.{arith}
+use lib.Dec.{eqb}
+use lib.ListN.{drop, getD, length}
+use borrow.Author.Tests.{eqb-false, eqb-true}
+use Rattle.limits.specs.Limits.{mostLanes}
+use Rattle.lists.proofs.Tests.{by-test, clash}
+use Rattle.view.specs.declared.Place.{Place}
+use Rattle.view.specs.declared.View.{View}
+use Rattle.tiling.specs.Tiling.{recordsOf, tilingOf}
+use Rattle.tiling.specs.declared.Tiling.{Tiling}
+use Rattle.line.specs.declared.Lane.{Lane}
+use Rattle.line.specs.declared.Line.{Line}
+use Rattle.line.specs.declared.Phase.{Phase}
+use Rattle.line.specs.Line.{Shaped, lane, phaseAt}
+use Rattle.lane_tests.specs.Rules.{countsOf}
+use Rattle.lane_tests.specs.declared.tallies.LaneCounts.{LaneCounts}
+use Rattle.waitlist.specs.declared.Wakes.{Wakes}
+use Rattle.event.specs.Event.{eventOf, fieldsIn}
+use Rattle.event.specs.ReadWrite.{readAt}
+use Rattle.event.specs.declared.Event.{Event}
+use Rattle.event.specs.declared.Reading.{Reading}
+use Rattle.decode_fields.specs.Fields.{fieldsAt, total, values}
+use Rattle.decode_fields.proofs.InOrder.{got}
+use Rattle.steps.specs.Effects.{started, woken}
+use Rattle.steps.specs.Meets.{stateOf}
+use Rattle.steps.specs.State.{State, leaves, withLanes, withPhase}
+use Rattle.steps.specs.Step.{callEvent}
+use Rattle.steps.specs.declared.Answer.{Answer}
+use Rattle.changes.specs.Change.{countsAfter, entryOf, missingLane, seenOf}
+use Rattle.changes.specs.declared.Change.{Change}
+use Rattle.changes.specs.declared.Seen.{Seen}
+use Rattle.changes.proofs.Steps.{lane-below}
+use Rattle.scopes.specs.Scope.{laneEvent}
+use Rattle.call_head.specs.Head.{Headed, restOf}
+use Rattle.call_head.specs.declared.Head.{Head}
+use Rattle.call_head.proofs.Heads.{fields-there, headed-read}
+use Rattle.call_head.proofs.LaneKinds.{enter-of}
+use Rattle.ordered_calls.specs.Settled.{enterOf}
+use Rattle.ordered_calls.specs.declared.Entered.{Entered}
+use Rattle.ordered_calls.proofs.Steps.{enter-refused}
+use Rattle.number_text.proofs.Decimal.{few-digits}
+use Rattle.line_number.specs.Numbered.{Keeps, Numbered}
+use Rattle.line_number.specs.declared.LineNumber.{LineNumber}
+use Rattle.line_number.proofs.Bytes.{keeps-own}
+use Rattle.line_number.proofs.Answers.{answer-line}
+use Rattle.kind_text.specs.Put.{Put}
+use Rattle.sheet_calls.specs.Calls.{Ran, RanCall, RanEnter, RanEntered, enterChange, enteredWith, isComplete, isRefusal, tableEntered}
+use Rattle.sheet_calls.specs.declared.Called.{Called}
+use Rattle.lanes_run.specs.Parts.{Going, lineNow}
+use Rattle.lanes_run.proofs.Going.{good-state, goes-on}
+use Rattle.lanes_run.proofs.Stores.{none-called, none-counts, refused-called, stored-shaped, storedLine, woken-called, woken-counts, woken-shaped}
+use Rattle.lanes_run.proofs.Enters.{complete-called, enter-missing, entered-is, gathered-called, gathered-counts}
+
+-- a lane is woken or none is
+lane-or-none : {X : Type 0} {w : ℕ} → Wakes.Lane w ≡ Wakes.None → X
+lane-or-none e = let z : _≡_ {A = ℕ} 0 1 = cc in absurd (omega arith)
+
+-- starting the lanes keeps the arrays' lengths
+started-length : (k : ℕ) (ls : List Lane) → length (started k ls) ≡ length ls
+unfolding started
+started-length k [] = refl
+started-length k (x ∷ xs) = rw (started-length _ xs)
+
+started-shaped : (l : Line) (k : ℕ) → Shaped l → Shaped (withLanes l (started k (l .lane)))
+started-shaped l k s = record { lanes-length = started-length k (l .lane) ∙ s .lanes-length; flags-length = s .flags-length; blocks-length = s .blocks-length }
+
+module _ (sheet : List ℕ) (x₀ : State) (out₀ : List ℕ) (from so-far first : ℕ) (l : Line) (book out : List ℕ) (at len number : ℕ) (G : Going sheet x₀ out₀ from so-far first l book out at len number)
+    (small : number < 18446744073709551616) (h : Head) (H : Headed sheet at h) (s : Seen) (sees : s ≡ seenOf l (entryOf (h .lane))) (counts : LaneCounts) (same : counts ≡ countsOf (l .lane))
+    (mid : List ℕ) (start : ℕ) (put : Numbered number out len mid start) (r : Called) (book′ out′ : List ℕ)
+    (R : RanCall h sheet s counts (tilingOf (l .view)) (recordsOf (l .view)) (l .flag) book mid start r book′ out′) (same-book : length book′ ≡ length book) (same-out : length out′ ≡ length out) where
+  abbrev After : Line → Type 0
+  After line′ = Going sheet x₀ out₀ from so-far first line′ book′ out′ (r .next) (r .end) (number + 1)
+
+  -- an event that was read, with its answer and what it leaves
+  on : (e : Event) → readAt sheet at ≡ Reading.Event e (record { at = r .next }) → Put (r .change .answer) mid start out′ (r .end) → (line′ : Line) → Shaped line′
+      → callEvent (stateOf l book) e ≡ leaves (r .change .answer) line′ book′ → After line′
+  on e read P line′ shaped called =
+      goes-on sheet x₀ out₀ from so-far first l book out at len number G e (record { at = r .next }) read (r .change .answer) line′ book′ called shaped
+      out′ (r .end) (answer-line (r .change .answer) put (P .text)) (omega (arith, P .short, put .ends, few-digits 19 number (omega (arith, small)))) same-book same-out (r .next) refl
+
+  -- ---- 02 to 09
+  module _ (apart : h .kind ≡ 10 → ⊥) where
+    lane-ran : Ran (h .kind) sheet (h .to) s counts (h .lane) (tilingOf (l .view)) (recordsOf (l .view)) (l .flag) book mid start r book′ out′
+    lane-ran = R .lane-call apart
+
+    lane-read : readAt sheet at ≡ Reading.Event (laneEvent (h .lane) (lane-ran .call)) (record { at = r .next })
+    lane-read = headed-read H (lane-ran .fields) ∙ rw (lane-ran .event)
+
+    lane-on : (line′ : Line) → Shaped line′ → callEvent (stateOf l book) (laneEvent (h .lane) (lane-ran .call)) ≡ leaves (r .change .answer) line′ book′ → After line′
+    lane-on line′ shaped called = on (laneEvent (h .lane) (lane-ran .call)) lane-read (lane-ran .text) line′ shaped called
+
+    lanes-fit : l .lanes ≤ mostLanes
+    lanes-fit = good-state G .facts .base .lanes-fit
+
+    lane-refused : r .refused ≡ true → After l
+    lane-refused e =
+        lane-on l (G .shaped)
+        (refused-called l book (G .shaped) lanes-fit (G .is-sound) (h .lane) (lane-ran .call) s sees (r .change) book′ (lane-ran .change) (lane-ran .puts) (sym (lane-ran .refused) ∙ e))
+
+    lane-none : (i : ℕ) → i ≡ entryOf (h .lane) → r .change .wakes ≡ Wakes.None → After (storedLine l i (r .change))
+    lane-none i own none =
+        lane-on (storedLine l i (r .change)) (stored-shaped l i (r .change) (G .shaped))
+        (none-called l book (G .shaped) lanes-fit (G .is-sound) (h .lane) (lane-ran .call) s sees (r .change) book′ (lane-ran .change) (lane-ran .puts) i own none)
+
+    lane-none-counts : (i : ℕ) → i ≡ entryOf (h .lane) → r .change .wakes ≡ Wakes.None → r .refused ≡ false → r .counts ≡ countsOf (storedLine l i (r .change) .lane)
+    lane-none-counts i own none e =
+        lane-ran .counted e ∙ ap (λ (k : LaneCounts). countsAfter k s (r .change)) same
+        ∙ none-counts l book (G .shaped) lanes-fit (G .is-sound) (h .lane) (lane-ran .call) s sees (r .change) book′ (lane-ran .change) (lane-ran .puts) i own none
+
+    module _ (i w v : ℕ) (y : Phase) (own : i ≡ entryOf (h .lane)) (wakes : r .change .wakes ≡ Wakes.Lane w) (entry : v ≡ entryOf w) (phase : y ≡ woken (r .change .pointer) (phaseAt (storedLine l i (r .change)) v)) where
+      lane-woken : After (withPhase (storedLine l i (r .change)) v y)
+      lane-woken =
+          lane-on (withPhase (storedLine l i (r .change)) v y) (woken-shaped (storedLine l i (r .change)) v y (stored-shaped l i (r .change) (G .shaped)))
+          (woken-called l book (G .shaped) lanes-fit (G .is-sound) (h .lane) (lane-ran .call) s sees (r .change) book′ (lane-ran .change) (lane-ran .puts) i w v y own wakes entry phase)
+
+      lane-woken-counts : r .refused ≡ false → r .counts ≡ countsOf (withPhase (storedLine l i (r .change)) v y .lane)
+      lane-woken-counts e =
+          lane-ran .counted e ∙ ap (λ (k : LaneCounts). countsAfter k s (r .change)) same
+          ∙ woken-counts l book (G .shaped) lanes-fit (G .is-sound) (h .lane) (lane-ran .call) s sees (r .change) book′ (lane-ran .change) (lane-ran .puts) i w v y own wakes entry phase
+
+  -- ---- 0A
+  module _ (ten : h .kind ≡ 10) where
+    entered-ran : RanEntered h sheet s counts (tilingOf (l .view)) (recordsOf (l .view)) book mid start r book′ out′
+    entered-ran = R .enter-call ten
+
+    lanes-same : s .lanes ≡ l .lanes
+    lanes-same = ap (λ (v : Seen). v .lanes) sees
+
+    -- refused by the tests of the lane
+    enter-lane-missing : (missingLane (s .lanes) (h .lane) ≡ 0 → ⊥) → After l
+    enter-lane-missing some =
+        let refused = entered-ran .missing some in
+        let rest = fieldsIn (restOf (h .kind)) (drop (h .to) sheet) in
+        let answer : r .change .answer ≡ Answer.Refused (missingLane (s .lanes) (h .lane)) = ap (λ (c : Change). c .answer) (refused .change) in
+        let past : h .to + total (restOf (h .kind)) ≡ r .next = rw ten (sym (refused .past)) in
+        let is : eventOf (h .kind) (h .lane ∷ rest) ≡ Event.Enter (h .lane) (getD rest 0 0) = ap (λ (k : ℕ). eventOf k (h .lane ∷ rest)) ten ∙ enter-of (h .lane) rest in
+        on (Event.Enter (h .lane) (getD rest 0 0)) (headed-read H (fields-there (restOf (h .kind)) sheet (h .to) (H .room) ∙ ap (values rest) past) ∙ rw is)
+        (rw answer (refused .put)) l (G .shaped)
+        (rw (answer, entered-ran .kept, lanes-same) (enter-missing l book (G .is-sound) (h .lane) (getD rest 0 0) (λ z. some (rw lanes-same z))))
+
+    -- past them
+    module _ (none : missingLane (s .lanes) (h .lane) ≡ 0) where
+      enter-ran : RanEnter sheet (h .to) s counts (tilingOf (l .view)) (recordsOf (l .view)) mid start r out′
+      enter-ran = entered-ran .entered none
+
+      below : h .lane < l .lanes
+      below = lane-below (l .lanes) (h .lane) (rw lanes-same at none)
+
+      abbrev comes : Entered
+      comes = enterOf l (h .lane) (enter-ran .count)
+
+      ran-is : r ≡ enteredWith s counts (enter-ran .count) comes (r .end) (r .next)
+      ran-is = enter-ran .is ∙ ap (λ (x : Entered). enteredWith s counts (enter-ran .count) x (r .end) (r .next)) (entered-is l book (G .shaped) (G .is-sound) (h .lane) below (enter-ran .count) s sees counts same)
+
+      enter-read : readAt sheet at ≡ Reading.Event (Event.Enter (h .lane) (enter-ran .count)) (record { at = r .next })
+      enter-read =
+          headed-read H (subst (λ (k : ℕ). fieldsAt (restOf k) sheet (h .to) ≡ values (enter-ran .count ∷ []) (r .next)) (sym ten) (enter-ran .fields))
+          ∙ ap (λ (k : ℕ). Reading.Event (eventOf k (h .lane ∷ enter-ran .count ∷ [])) (record { at = r .next })) ten
+
+      enter-on : (line′ : Line) → Shaped line′ → callEvent (stateOf l book) (Event.Enter (h .lane) (enter-ran .count)) ≡ leaves (r .change .answer) line′ book → After line′
+      enter-on line′ shaped called = on (Event.Enter (h .lane) (enter-ran .count)) enter-read (enter-ran .text) line′ shaped (called ∙ ap (leaves (r .change .answer) line′) (sym (entered-ran .kept)))
+
+      -- refused past them
+      refused-by : (x : Entered) → comes ≡ x → r .refused ≡ true → After l
+      refused-by (Entered.Refused k) e told =
+          let answer : r .change .answer ≡ Answer.Refused k = ap (λ (v : Called). v .change .answer) ran-is ∙ ap (λ (x : Entered). enterChange s (enter-ran .count) (counts .total + enter-ran .count) x .answer) e in
+          enter-on l (G .shaped) (enter-refused l book (G .shaped) (G .is-sound) (h .lane) below (enter-ran .count) k e ∙ ap (λ (a : Answer). leaves a l book) (sym answer))
+      refused-by Entered.Gathered e told = absurd (false≢true (sym (ap (λ (v : Called). v .refused) ran-is ∙ ap (λ (x : Entered). isRefusal (enterChange s (enter-ran .count) (counts .total + enter-ran .count) x .answer)) e) ∙ told))
+      refused-by Entered.Complete e told = absurd (false≢true (sym (ap (λ (v : Called). v .refused) ran-is ∙ ap (λ (x : Entered). isRefusal (enterChange s (enter-ran .count) (counts .total + enter-ran .count) x .answer)) e) ∙ told))
+
+      -- gathered, and no more
+      gathered-is : (x : Entered) → comes ≡ x → r .refused ≡ false → r .starts ≡ false → comes ≡ Entered.Gathered
+      gathered-is (Entered.Refused k) e told waits = absurd (false≢true (sym told ∙ ap (λ (v : Called). v .refused) ran-is ∙ ap (λ (x : Entered). isRefusal (enterChange s (enter-ran .count) (counts .total + enter-ran .count) x .answer)) e))
+      gathered-is Entered.Gathered e told waits = e
+      gathered-is Entered.Complete e told waits = absurd (false≢true (sym waits ∙ ap (λ (v : Called). v .starts) ran-is ∙ ap isComplete e))
+
+      complete-is : (x : Entered) → comes ≡ x → r .starts ≡ true → comes ≡ Entered.Complete
+      complete-is (Entered.Refused k) e told = absurd (false≢true (sym (ap (λ (v : Called). v .starts) ran-is ∙ ap isComplete e) ∙ told))
+      complete-is Entered.Gathered e told = absurd (false≢true (sym (ap (λ (v : Called). v .starts) ran-is ∙ ap isComplete e) ∙ told))
+      complete-is Entered.Complete e told = e
+
+      -- what is known of the change, by what the enter comes to
+      change-is : (x : Entered) → comes ≡ x → r .change ≡ enterChange s (enter-ran .count) (counts .total + enter-ran .count) x
+      change-is x e = ap (λ (v : Called). v .change) ran-is ∙ ap (enterChange s (enter-ran .count) (counts .total + enter-ran .count)) e
+
+      module _ (i : ℕ) (own : i ≡ entryOf (h .lane)) where
+        enter-gathered-on : comes ≡ Entered.Gathered → After (storedLine l i (r .change))
+        enter-gathered-on e =
+            enter-on (storedLine l i (r .change)) (stored-shaped l i (r .change) (G .shaped))
+            (gathered-called l book (G .shaped) (G .is-sound) (h .lane) below (enter-ran .count) s sees counts same e i own ∙ ap (λ (c : Change). leaves (c .answer) (storedLine l i c) book) (sym (change-is Entered.Gathered e)))
+
+        enter-gathered-counts : comes ≡ Entered.Gathered → r .counts ≡ countsOf (storedLine l i (r .change) .lane)
+        enter-gathered-counts e =
+            ap (λ (v : Called). v .counts) ran-is ∙ gathered-counts l book (G .shaped) (G .is-sound) (h .lane) below (enter-ran .count) s sees counts same e i own
+            ∙ ap (λ (c : Change). countsOf (storedLine l i c .lane)) (sym (change-is Entered.Gathered e))
+
+        enter-complete-on : comes ≡ Entered.Complete → After (withLanes (storedLine l i (r .change)) (started (s .pointer .0) (storedLine l i (r .change) .lane)))
+        enter-complete-on e =
+            enter-on (withLanes (storedLine l i (r .change)) (started (s .pointer .0) (storedLine l i (r .change) .lane)))
+            (started-shaped (storedLine l i (r .change)) (s .pointer .0) (stored-shaped l i (r .change) (G .shaped)))
+            (complete-called l book (G .shaped) (G .is-sound) (h .lane) below (enter-ran .count) s sees counts same e i own
+            ∙ ap (λ (c : Change). leaves (c .answer) (withLanes (storedLine l i c) (started (s .pointer .0) (storedLine l i c .lane))) book) (sym (change-is Entered.Complete e)))
+
+  -- ---- of any kind
+  by-ten : {X : Type 0} → ((h .kind ≡ 10 → ⊥) → X) → (h .kind ≡ 10 → X) → X
+  by-ten f g = by-test (eqb (h .kind) 10) (λ t. g (eqb-true (h .kind) 10 t)) (λ t. f (eqb-false (h .kind) 10 t))
+
+  by-missing : {X : Type 0} → ((missingLane (s .lanes) (h .lane) ≡ 0 → ⊥) → X) → (missingLane (s .lanes) (h .lane) ≡ 0 → X) → X
+  by-missing f g = by-test (eqb (missingLane (s .lanes) (h .lane)) 0) (λ t. g (eqb-true _ 0 t)) (λ t. f (eqb-false _ 0 t))
+
+  -- an accepted enter has passed the tests of the lane
+  not-missing : (ten : h .kind ≡ 10) → r .refused ≡ false → missingLane (s .lanes) (h .lane) ≡ 0
+  not-missing ten told = by-missing (λ some. absurd (false≢true (sym told ∙ entered-ran ten .missing some .told))) (λ none. none)
+
+  -- a refusal
+  pub refused-on : r .refused ≡ true → After l
+  refused-on told = by-ten (λ apart. lane-refused apart told) (λ ten. by-missing (enter-lane-missing ten) (λ none. refused-by ten none (comes ten none) refl told))
+
+  module _ (i : ℕ) (own : i ≡ entryOf (h .lane)) (told : r .refused ≡ false) where
+    -- a change that wakes no lane and starts none
+    pub none-on : r .change .wakes ≡ Wakes.None → r .starts ≡ false → After (storedLine l i (r .change))
+    none-on none waits =
+        by-ten (λ apart. lane-none apart i own none)
+        (λ ten. let there = not-missing ten told in enter-gathered-on ten there i own (gathered-is ten there (comes ten there) refl told waits))
+
+    pub none-on-counts : r .change .wakes ≡ Wakes.None → r .starts ≡ false → r .counts ≡ countsOf (storedLine l i (r .change) .lane)
+    none-on-counts none waits =
+        by-ten (λ apart. lane-none-counts apart i own none told)
+        (λ ten. let there = not-missing ten told in enter-gathered-counts ten there i own (gathered-is ten there (comes ten there) refl told waits))
+
+    -- an ordered call that is complete
+    pub started-on : r .starts ≡ true → After (withLanes (storedLine l i (r .change)) (started (s .pointer .0) (storedLine l i (r .change) .lane)))
+    started-on begins =
+        by-ten (λ apart. absurd (false≢true (sym (lane-ran apart .starts) ∙ begins)))
+        (λ ten. let there = not-missing ten told in enter-complete-on ten there i own (complete-is ten there (comes ten there) refl begins))
+
+    -- a change that wakes a lane
+    module _ (w v : ℕ) (y : Phase) (wakes : r .change .wakes ≡ Wakes.Lane w) (entry : v ≡ entryOf w) (phase : y ≡ woken (r .change .pointer) (phaseAt (storedLine l i (r .change)) v)) where
+      no-enter : {X : Type 0} → h .kind ≡ 10 → X
+      no-enter ten =
+          let there = not-missing ten told in
+          lane-or-none (sym wakes ∙ ap (λ (c : Change). c .wakes) (change-is ten there (comes ten there) refl) ∙ wakes-none (comes ten there))
+        where
+          wakes-none : (x : Entered) → enterChange s (enter-ran ten (not-missing ten told) .count) (counts .total + enter-ran ten (not-missing ten told) .count) x .wakes ≡ Wakes.None
+          wakes-none (Entered.Refused k) = refl
+          wakes-none Entered.Gathered = refl
+          wakes-none Entered.Complete = refl
+
+      pub woken-on : After (withPhase (storedLine l i (r .change)) v y)
+      woken-on = by-ten (λ apart. lane-woken apart i w v y own wakes entry phase) (λ ten. no-enter ten)
+
+      pub woken-on-counts : r .counts ≡ countsOf (withPhase (storedLine l i (r .change)) v y .lane)
+      woken-on-counts = by-ten (λ apart. lane-woken-counts apart i w v y own wakes entry phase told) (λ ten. no-enter ten)
+
+  further : at < r .next
+  further =
+      let head = got (H .fields) .past in
+      by-ten (λ apart. omega (arith, head, got (lane-ran apart .fields) .past))
+      (λ ten. by-missing (λ some. omega (arith, head, entered-ran ten .missing some .past)) (λ none. omega (arith, head, got (enter-ran ten none .fields) .past)))
+
+  -- the next event stands further on, from an index of the sheet
+  pub moves : (at < r .next) × (at < length sheet)
+  moves = (further, omega (arith, got (H .fields) .past, H .room))
+
+-- ---- names of the run's variables for what a turn leaves
+pub ran-as : {h : Head} {sheet : List ℕ} {s : Seen} {counts : LaneCounts} {t : Tiling} (v : View) {records flags book out : List ℕ} {at : ℕ} {r : Called} {book′ out′ : List ℕ} → t ≡ tilingOf v → records ≡ recordsOf v
+    → RanCall h sheet s counts t records flags book out at r book′ out′ → RanCall h sheet s counts (tilingOf v) (recordsOf v) flags book out at r book′ out′
+ran-as v tiles table R = rw (← tiles, ← table) R
+
+pub turned : {sheet : List ℕ} {x₀ : State} {out₀ : List ℕ} {from so-far first : ℕ} (line : Line) {book out flags book′ out′ flags′ : List ℕ} {size at len size′ at′ len′ n : ℕ} {pointer pointer′ : Place}
+    {lanes lanes′ : List Lane} {counts counts′ : LaneCounts} {number : LineNumber}
+    → book ≡ book′ → out ≡ out′ → size ≡ size′ → pointer ≡ pointer′ → lanes ≡ lanes′ → flags ≡ flags′ → counts ≡ counts′ → at ≡ at′ → len ≡ len′
+    → Going sheet x₀ out₀ from so-far first (lineNow line size′ pointer′ lanes′ flags′) book′ out′ at′ len′ n → counts′ ≡ countsOf lanes′ → Keeps n number
+    → (Going sheet x₀ out₀ from so-far first (lineNow line size pointer lanes flags) book out at len (number .number)) × (counts ≡ countsOf lanes) × Keeps (number .number) number
+turned line a b c d e f g i j going counted keeps = (rw (a, b, c, d, e, f, i, j, keeps .number) going, g ∙ counted ∙ ap countsOf (sym e), keeps-own keeps)

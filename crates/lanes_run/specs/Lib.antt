@@ -1,0 +1,2 @@
+-- What a part of a run is held to.
+pub mod Parts

@@ -1,0 +1,99 @@
+-- The parts of a run: where it stands, and what a part of it has added. Tied to `runOn` by lanes_run/Going: goes-on, joined.
+use Prim.Native.Nat.{ℕ, _+_, _-_, _*_, _≤_}
+use mathlib.Core.Bool.{Bool, true, false, not}
+use mathlib.Core.List.{List, _++_}
+use mathlib.Core.Path.{_≡_}
+use lib.Dec.{eqb}
+use lib.ListN.{length}
+use Rattle.view.specs.declared.Place.{Place}
+use Rattle.tiling.specs.Tiling.{recordsOf, tilingOf}
+use Rattle.tiling.specs.declared.Tiling.{Tiling}
+use Rattle.line.specs.Line.{Shaped}
+use Rattle.line.specs.Sound.{sound}
+use Rattle.line.specs.declared.Lane.{Lane}
+use Rattle.line.specs.declared.Line.{Line}
+use Rattle.lane_tests.specs.declared.tallies.LaneCounts.{LaneCounts}
+use Rattle.event.specs.ReadWrite.{readAt}
+use Rattle.event.specs.declared.Cursor.{Cursor}
+use Rattle.event.specs.declared.Event.{Event}
+use Rattle.event.specs.declared.Reading.{Reading}
+use Rattle.steps.specs.Meets.{stateOf}
+use Rattle.steps.specs.State.{State}
+use Rattle.steps.specs.declared.Answer.{Answer}
+use Rattle.changes.specs.declared.Seen.{Seen}
+use Rattle.scopes.specs.Scope.{scopeOf}
+use Rattle.scopes.specs.declared.LineCall.{LineCall}
+use Rattle.scopes.specs.declared.Scope.{Scope}
+use Rattle.line_calls.specs.Refusal.{lineRefusal}
+use Rattle.call_head.specs.Head.{NoLane}
+use Rattle.printout.specs.Print.{answerLine, answerLines, endLine}
+use Rattle.printout.specs.Run.{Ran, runOn}
+use Rattle.number_text.specs.Stored.{Stored}
+use Rattle.answer_text.specs.Printing.{mostLine}
+use Rattle.run_text.specs.RunText.{mostText}
+use Rattle.lanes_run.specs.declared.LineRefused.{LineRefused}
+use Rattle.lanes_run.specs.declared.Standing.{Standing}
+
+-- ---- the line by what lanes' calls change of it
+abbrev pub lineNow : Line → ℕ → Place → List Lane → List ℕ → Line
+lineNow l size pointer lanes flags =
+    record { lanes = l .lanes; capacity = l .capacity; size = size; pointer = pointer; view = l .view; lane = lanes; flag = flags }
+
+abbrev pub seenNow : ℕ → ℕ → ℕ → Place → LaneCounts → Lane → ℕ → Seen
+seenNow lanes capacity size pointer counts own flag =
+    record { lanes = lanes; capacity = capacity; size = size; pointer = pointer; gathering = not (eqb (counts .gathered) 0); phase = own .phase; flag = flag }
+
+-- ---- a part of a run
+-- the text of the answers, numbered from k on, and of what a run leaves
+abbrev pub textOf : ℕ → Ran → List ℕ
+textOf k r = answerLines k (r .answers) ++ endLine (r .after)
+
+-- a run that was in state x₀ at index `from` of the sheet, past `first` events and with `so-far` bytes of text, has come to `line` and `book`, at index `at` and past
+-- `number` events; the text since then stands in `out` up to `len`
+pub record Going (sheet : List ℕ) (x₀ : State) (out₀ : List ℕ) (from so-far first : ℕ) (line : Line) (book out : List ℕ) (at len number : ℕ) : Type 0 where
+  pub shaped : Shaped line
+  pub is-sound : sound line (length book) ≡ true
+  pub inside : at ≤ length sheet
+  pub numbered : number ≤ at
+  pub short : len ≤ mostLine * at
+  pub text : List ℕ
+  pub stored : Stored text out₀ so-far out len
+  pub rest : text ++ textOf number (runOn (length sheet - number) (stateOf line book) sheet at) ≡ textOf first (runOn (length sheet - first) x₀ sheet from)
+  pub after : runOn (length sheet - number) (stateOf line book) sheet at .after ≡ runOn (length sheet - first) x₀ sheet from .after
+  pub book-length : length book ≡ length (x₀ .book)
+  pub out-length : length out ≡ length out₀
+
+-- what a part needs where it begins: a sound line, its view's table, an index of the sheet, and room for the text
+pub record Begun (s : Standing) (t : Tiling) (records book sheet out : List ℕ) : Type 0 where
+  pub shaped : Shaped (s .line)
+  pub is-sound : sound (s .line) (length book) ≡ true
+  pub tiles : t ≡ tilingOf (s .line .view)
+  pub table : records ≡ recordsOf (s .line .view)
+  pub inside : s .at ≤ length sheet
+  pub numbered : s .number ≤ s .at
+  pub short : s .length ≤ mostLine * s .at
+  pub room : mostText (length sheet) ≤ length out
+
+-- what it leaves: the run has gone on, and no lane calls at the index where it stops
+pub record Went (s : Standing) (book sheet out : List ℕ) (r : Standing) (book-left out-left : List ℕ) : Type 0 where
+  pub going : Going sheet (stateOf (s .line) book) out (s .at) (s .length) (s .number) (r .line) book-left out-left (r .at) (r .length) (r .number)
+  pub stops : NoLane sheet (r .at)
+
+-- ---- a call on the whole line that is refused
+abbrev pub refusalNow : LineCall → Line → LaneCounts → ℕ → ℕ
+refusalNow call l counts buffer = lineRefusal call (l .lanes) (l .capacity) (l .size) (l .pointer) (l .view) (eqb (counts .active) 0) buffer
+
+pub record LineRefusal (l : Line) (counts : LaneCounts) (buffer : ℕ) (sheet : List ℕ) (at : ℕ) (out : List ℕ) (len number : ℕ) (r : LineRefused) (out-left : List ℕ) : Type 0 where
+  pub event : Event
+  pub next : Cursor
+  pub call : LineCall
+  pub read : readAt sheet at ≡ Reading.Event event next
+  pub scope : scopeOf event ≡ Scope.Line call
+  pub some : refusalNow call l counts buffer ≡ 0 → ⊥
+  pub past : r .at ≡ next .at
+  pub text : Stored (answerLine number (Answer.Refused (refusalNow call l counts buffer))) out len out-left (r .length)
+  pub short : r .length ≤ len + mostLine
+
+pub record RefusedLine (l : Line) (counts : LaneCounts) (buffer : ℕ) (sheet : List ℕ) (at : ℕ) (out : List ℕ) (len number : ℕ) (r : LineRefused) (out-left : List ℕ) : Type 0 where
+  pub yes : r .refused ≡ true → LineRefusal l counts buffer sheet at out len number r out-left
+  pub no : r .refused ≡ false → out-left ≡ out
