@@ -16,7 +16,6 @@ use Rattle.line.specs.Line.{countIn, idleLane, isGathered, isWaiting, lane}
 use Rattle.line.proofs.Phases.{numbered, numbered-is}
 use Rattle.waitlist.specs.declared.Wakes.{Wakes}
 use Rattle.lane_tests.specs.Rules.{countsOf, notIdle}
-use Rattle.lane_tests.specs.declared.tallies.LaneCounts.{LaneCounts}
 use Rattle.lane_tests.proofs.Counts.{active-has, active-set, gathered-set, total-set}
 use Rattle.steps.specs.Effects.{woken}
 use Rattle.changes.specs.Change.{applied, countsAfter, seenOf}

@@ -46,7 +46,13 @@ fn decide_at(
     match call {
         LaneCall::Want { purpose } => turn_calls::want(seen, flags, lane, purpose),
         LaneCall::Receive => turn_calls::receive(seen),
-        LaneCall::Take { count } => turn_calls::take(seen, take_fits(seen, view, count), flags, lane, count),
+        LaneCall::Take { count } => turn_calls::take(
+            seen,
+            take_fits(seen, view, count),
+            flags,
+            lane,
+            count,
+        ),
         LaneCall::Write { content } => {
             let change = record_calls::write(seen, next_position(seen, view));
             let answer = change.answer;

@@ -1,29 +1,28 @@
 -- An enter of a sheet in the line that a run keeps: its stores leave the line that the step leaves, and the counts of its lanes.
 use Prim.Native.Nat.{ℕ, _+_, _<_}
-use mathlib.Core.Path.{_≡_, refl, sym, ap, _∙_}
+use mathlib.Core.Path.{_≡_, ap, _∙_}
 use mathlib.Core.Bool.{true}
 use mathlib.Core.List.{List}
 use native.Mathlib.Omega.{arith}
 use lib.Dec.{eqb, leb}
-use lib.ListN.{getD, length, set}
+use lib.ListN.{length, set}
 use lib.Seq.{set-getD}
-use Rattle.lists.specs.Lists.{bit}
 use Rattle.lists.proofs.Tests.{by-test}
 use Rattle.limits.specs.Limits.{mostLanes}
 use Rattle.tiling.specs.Tiling.{recordsOf, tilingOf}
 use Rattle.tiling.proofs.Laws.{table-fits}
 use Rattle.line.specs.declared.Line.{Line}
 use Rattle.line.specs.declared.Phase.{Phase}
-use Rattle.line.specs.Line.{Shaped, countIn, idleLane, isGathered, lane, phaseAt}
+use Rattle.line.specs.Line.{Shaped, lane, phaseAt}
 use Rattle.line.specs.Sound.{sound}
-use Rattle.lane_tests.specs.Rules.{countsOf, notIdle}
+use Rattle.lane_tests.specs.Rules.{countsOf}
 use Rattle.lane_tests.specs.declared.tallies.LaneCounts.{LaneCounts}
 use Rattle.lane_tests.proofs.Counts.{active-set, gathered-set, total-set}
 use Rattle.waitlist.specs.NextLane.{nextLane}
 use Rattle.event.specs.declared.Event.{Event}
 use Rattle.steps.specs.Effects.{started}
 use Rattle.steps.specs.Meets.{stateOf}
-use Rattle.steps.specs.State.{leaves, withLanes, withPointer}
+use Rattle.steps.specs.State.{leaves, withLanes}
 use Rattle.steps.specs.Step.{callEvent, refuse}
 use Rattle.steps.specs.declared.Answer.{Answer}
 use Rattle.steps.proofs.Chains.{enter-chain}
@@ -32,7 +31,7 @@ use Rattle.changes.specs.declared.Seen.{Seen}
 use Rattle.changes.proofs.Steps.{entry-is}
 use Rattle.ordered_calls.specs.Settled.{enterOf, isAccepted, totalWith}
 use Rattle.ordered_calls.specs.declared.Entered.{Entered}
-use Rattle.ordered_calls.proofs.Steps.{enter-complete, enter-gathered, enter-idle, enter-refused, index-in, index-within}
+use Rattle.ordered_calls.proofs.Steps.{enter-complete, enter-gathered, enter-idle, index-in, index-within}
 use Rattle.sheet_calls.specs.Calls.{countsEntered, enterChange, gatheredChange, tableEntered}
 use Rattle.lanes_run.proofs.Stores.{storedLine}
 

@@ -1,18 +1,12 @@
 -- A part of a run: that it begins, that an event makes it longer, and that two parts make one.
-use Prim.Native.Nat.{ℕ, suc, _+_, _-_, _*_, _≤_, _<_}
+use Prim.Native.Nat.{ℕ, suc, _+_, _-_, _*_, _≤_}
 use mathlib.Core.Path.{_≡_, refl, sym, ap, _∙_, subst}
 use mathlib.Core.Bool.{true}
-use mathlib.Core.List.{List, [], _∷_, _++_}
+use mathlib.Core.List.{List, [], _++_}
 use native.Mathlib.Omega.{arith}
-use native.Mathlib.Nat.{sub-zero, zero-add}
 use native.Mathlib.Numerals.{add-one}
-use lib.Dec.{leb}
 use mathlib.Core.List.{append-assoc}
 use lib.ListN.{length}
-use borrow.Author.Tests.{le-leb, leb-false}
-use types.Run.{OneOf, miss}
-use denote.Enum.Declared.{tagOf}
-use Rattle.lists.proofs.Tests.{by-test}
 use Rattle.line.specs.declared.Line.{Line}
 use Rattle.line.specs.Line.{Shaped}
 use Rattle.line.specs.Sound.{sound}
@@ -24,21 +18,18 @@ use Rattle.event.specs.declared.Cursor.{Cursor}
 use Rattle.event.specs.declared.Event.{Event}
 use Rattle.event.specs.declared.Reading.{Reading}
 use Rattle.event.proofs.Lengths.{reads}
-use Rattle.event.proofs.Reading.{the-type}
 use Rattle.steps.specs.Meets.{stateOf}
 use Rattle.steps.specs.State.{Result, State, leaves}
 use Rattle.steps.specs.Step.{callEvent}
 use Rattle.steps.specs.declared.Answer.{Answer}
 use Rattle.steps.proofs.Keeps.{GoodState, keeps}
 use Rattle.steps.proofs.Cases.{steps}
-use Rattle.printout.specs.Print.{answerLine, answerLines, endLine, printed}
-use Rattle.printout.specs.Run.{Ran, answered, done, run, runOn}
-use Rattle.printout.proofs.Runs.{run-end, run-event, run-refused}
+use Rattle.printout.specs.Print.{answerLine, answerLines, endLine}
+use Rattle.printout.specs.Run.{Ran, answered, runOn}
+use Rattle.printout.proofs.Runs.{run-event}
 use Rattle.number_text.specs.Stored.{Stored}
 use Rattle.number_text.proofs.Stores.{and-then}
 use Rattle.answer_text.specs.Printing.{mostLine}
-use Rattle.answer_text.specs.declared.Printed.{Printed}
-use Rattle.run_text.specs.RunText.{lastLines}
 use Rattle.lanes_run.specs.Parts.{Going, textOf}
 
 -- what a sound line has

@@ -1,6 +1,6 @@
 -- What a sound line gives a lane's call of a sheet.
 use Prim.Native.Nat.{ℕ, _+_, _≤_, _<_}
-use mathlib.Core.Path.{_≡_, refl, sym, _∙_}
+use mathlib.Core.Path.{_≡_, sym, _∙_}
 use mathlib.Core.Bool.{true}
 use mathlib.Core.List.{List}
 use native.Mathlib.Omega.{arith}
@@ -29,7 +29,7 @@ use Rattle.changes.specs.declared.Seen.{Seen}
 use Rattle.changes.proofs.Within.{within-good}
 use Rattle.record_calls.proofs.Regular.{next-fits}
 use Rattle.ordered_calls.proofs.Steps.{tests-passed}
-use Rattle.sheet_calls.specs.Calls.{InReach, Ready}
+use Rattle.sheet_calls.specs.Calls.{Ready}
 
 -- the numbers that open and unopened lines have alike
 pub record Numbers (l : Line) : Type 0 where
@@ -39,16 +39,17 @@ pub record Numbers (l : Line) : Type 0 where
 
 pub numbers-of : (l : Line) (n : ℕ) → Good l n → Numbers l
 numbers-of l n G =
-    elim (decLt 0 (l .lanes))
-    [ yes h ↦ let m = when-open l n h (G .numbers) in record { view = m .view; most = m .most; reach = m .reach }
-    | no h ↦
-        let tests : unopenedNumbers l ≡ true = rw (eq-eqb (l .lanes) 0 (omega arith)) at (G .numbers) in
-        let bs = eqb (l .capacity) 0 ∷ eqb (l .size) 0 ∷ eqb (l .pointer .0) 0 ∷ isPlain (l .view) ∷ [] in
-        record {
-          view = isPlain-ok (l .capacity) (l .view) (every-nth bs 3 tests);
-          most = omega (arith, eqb-true (l .capacity) 0 (every-nth bs 0 tests));
-          reach = omega (arith, eqb-true (l .pointer .0) 0 (every-nth bs 2 tests));
-        } ]
+    elim (decLt 0 (l .lanes)) [
+      | yes h ↦ let m = when-open l n h (G .numbers) in record { view = m .view; most = m .most; reach = m .reach }
+      | no h ↦
+          let tests : unopenedNumbers l ≡ true = rw (eq-eqb (l .lanes) 0 (omega arith)) at (G .numbers) in
+          let bs = eqb (l .capacity) 0 ∷ eqb (l .size) 0 ∷ eqb (l .pointer .0) 0 ∷ isPlain (l .view) ∷ [] in
+          record {
+            view = isPlain-ok (l .capacity) (l .view) (every-nth bs 3 tests);
+            most = omega (arith, eqb-true (l .capacity) 0 (every-nth bs 0 tests));
+            reach = omega (arith, eqb-true (l .pointer .0) 0 (every-nth bs 2 tests));
+          }
+    ]
 
 module _ (l : Line) (n : ℕ) (shaped : Shaped l) (G : Good l n) where
   -- the pointer after records that fit from it is in its range

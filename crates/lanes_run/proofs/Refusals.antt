@@ -3,13 +3,11 @@ use Prim.Native.Nat.{ℕ, _+_, _<_}
 use mathlib.Core.Path.{_≡_, refl, sym, ap, _∙_}
 use mathlib.Core.List.{List}
 use native.Mathlib.Omega.{arith}
-use lib.Dec.{eqb}
 use lib.ListN.{length}
 use Rattle.line.specs.declared.Line.{Line}
 use Rattle.lane_tests.specs.Rules.{countsOf}
 use Rattle.lane_tests.specs.declared.tallies.LaneCounts.{LaneCounts}
 use Rattle.lane_tests.proofs.Counts.{idle-counts}
-use Rattle.event.specs.declared.Event.{Event}
 use Rattle.event.proofs.Lengths.{reads}
 use Rattle.steps.specs.Meets.{stateOf}
 use Rattle.steps.specs.State.{State}

@@ -5,7 +5,7 @@ use mathlib.Core.Bool.{Bool, true, false, not, _||_}
 use mathlib.Core.List.{List, [], _∷_}
 use lib.Dec.{eqb}
 use native.Mathlib.Omega.{arith}
-use lib.ListN.{getD, length, length-set, set}
+use lib.ListN.{getD, length, length-set}
 use borrow.Author.Tests.{ltb-true, ne-eqb, not-true}
 use Rattle.lists.specs.Lists.{bit, somePass}
 use Rattle.limits.specs.Limits.{mostLanes}
@@ -20,8 +20,6 @@ use Rattle.lane_tests.specs.declared.tallies.LaneCounts.{LaneCounts}
 use Rattle.waitlist.specs.NextLane.{nextLane}
 use Rattle.waitlist.specs.declared.Wakes.{Wakes}
 use Rattle.event.specs.Event.{given}
-use Rattle.steps.specs.declared.Answer.{Answer}
-use Rattle.steps.specs.Answer.{saidBy}
 use Rattle.steps.specs.Effects.{woken}
 use Rattle.steps.specs.Meets.{stateOf}
 use Rattle.steps.specs.State.{Result, State, leaves, withFlag, withPhase, withPointer, withSize}

@@ -1,14 +1,14 @@
 -- A turn of a run by a call of a lane: it is one event of the run.
 use Prim.Native.Nat.{ℕ, _+_, _≤_, _<_}
 use mathlib.Core.Path.{_≡_, refl, sym, ap, _∙_, subst}
-use mathlib.Core.Bool.{Bool, true, false, false≢true}
+use mathlib.Core.Bool.{true, false, false≢true}
 use mathlib.Core.List.{List, [], _∷_}
 use native.Mathlib.Omega.{arith}
 use lib.Dec.{eqb}
 use lib.ListN.{drop, getD, length}
 use borrow.Author.Tests.{eqb-false, eqb-true}
 use Rattle.limits.specs.Limits.{mostLanes}
-use Rattle.lists.proofs.Tests.{by-test, clash}
+use Rattle.lists.proofs.Tests.{by-test}
 use Rattle.view.specs.declared.Place.{Place}
 use Rattle.view.specs.declared.View.{View}
 use Rattle.tiling.specs.Tiling.{recordsOf, tilingOf}
@@ -49,7 +49,7 @@ use Rattle.line_number.specs.declared.LineNumber.{LineNumber}
 use Rattle.line_number.proofs.Bytes.{keeps-own}
 use Rattle.line_number.proofs.Answers.{answer-line}
 use Rattle.kind_text.specs.Put.{Put}
-use Rattle.sheet_calls.specs.Calls.{Ran, RanCall, RanEnter, RanEntered, enterChange, enteredWith, isComplete, isRefusal, tableEntered}
+use Rattle.sheet_calls.specs.Calls.{Ran, RanCall, RanEnter, RanEntered, enterChange, enteredWith, isComplete, isRefusal}
 use Rattle.sheet_calls.specs.declared.Called.{Called}
 use Rattle.lanes_run.specs.Parts.{Going, lineNow}
 use Rattle.lanes_run.proofs.Going.{good-state, goes-on}

@@ -131,7 +131,16 @@ fn refuse_line(
     let pointer = line.pointer;
     let view = line.view;
     let idle = counts.active == 0;
-    let refusal = refusal_of(call, line.lanes, line.capacity, line.size, pointer, view, idle, buffer);
+    let refusal = refusal_of(
+        call,
+        line.lanes,
+        line.capacity,
+        line.size,
+        pointer,
+        view,
+        idle,
+        buffer,
+    );
     if refusal == 0 {
         return none_refused(at, end);
     }
@@ -187,9 +196,28 @@ pub fn run_lanes(
         if head.whole {
             let i = entry_of(head.lane);
             let own = lane[i];
-            let seen = see_own(line.lanes, line.capacity, size, pointer, counts, own, flag[i]);
+            let seen = see_own(
+                line.lanes,
+                line.capacity,
+                size,
+                pointer,
+                counts,
+                own,
+                flag[i],
+            );
             let to = put_line_number(out, length, number);
-            let called = call_lane(head, seen, counts, tiling, records, &flag, book, sheet, out, to);
+            let called = call_lane(
+                head,
+                seen,
+                counts,
+                tiling,
+                records,
+                &flag,
+                book,
+                sheet,
+                out,
+                to,
+            );
             at = called.next;
             length = called.end;
             if !called.refused {
@@ -213,7 +241,16 @@ pub fn run_lanes(
             }
         } else {
             let now = line_with(line, size, pointer, lane, flag);
-            let refused = refuse_line(now, counts, book.len(), sheet, at, out, length, number.number);
+            let refused = refuse_line(
+                now,
+                counts,
+                book.len(),
+                sheet,
+                at,
+                out,
+                length,
+                number.number,
+            );
             if !refused.refused {
                 return stand_at(now, at, length, number.number);
             }

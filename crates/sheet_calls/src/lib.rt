@@ -9,10 +9,10 @@ ghost use Rattle.changes.specs.Change.{Counted, countsAfter};
 ghost use Rattle.sheet_calls.specs.Calls.{RanCall, Ready, RefusedBy, Room, calledWith, isRefusal};
 ghost use Rattle.answer_text.specs.Printing.{mostValues};
 use answer_text::put_refused;
-use changes::Change;
-use changes::Seen;
 use call_head::Head;
 use call_head::rest_of;
+use changes::Change;
+use changes::Seen;
 use changes::missing_lane;
 use changes::refuse;
 use lane_tests::tallies::LaneCounts;
@@ -150,7 +150,18 @@ pub fn call_lane(
     match kind {
         0x02 => turns::call_want(seen, counts, lane, flags, sheet, to, out, at),
         0x03 => turns::call_receive(seen, counts, to, out, at),
-        0x04 => turns::call_take(seen, counts, lane, tiling, records, flags, sheet, to, out, at),
+        0x04 => turns::call_take(
+            seen,
+            counts,
+            lane,
+            tiling,
+            records,
+            flags,
+            sheet,
+            to,
+            out,
+            at,
+        ),
         0x05 => records::call_write(seen, counts, tiling, records, book, sheet, to, out, at),
         0x06 => records::call_read(seen, counts, tiling, records, book, to, out, at),
         0x07 => records::call_put(seen, counts, tiling, records, book, sheet, to, out, at),

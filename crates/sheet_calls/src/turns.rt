@@ -7,10 +7,10 @@ ghost use Rattle.line.specs.Line.{placeIn};
 ghost use Rattle.changes.specs.Change.{Counted};
 ghost use Rattle.answer_text.specs.Printing.{mostValues};
 ghost use Rattle.sheet_calls.specs.Calls.{RanFree, RanReceive, RanTake, RanWant};
-use changes::Seen;
 use crate::Called;
 use crate::call_with;
 use crate::cut_short;
+use changes::Seen;
 use decode_fields::Field8;
 use decode_fields::Field16;
 use decode_fields::read_u8;
@@ -48,13 +48,7 @@ pub fn call_want(
 }
 
 // 03.
-pub fn call_receive(
-    seen: Seen,
-    counts: LaneCounts,
-    to: usize,
-    out: &mut [u8],
-    at: usize,
-) -> Called
+pub fn call_receive(seen: Seen, counts: LaneCounts, to: usize, out: &mut [u8], at: usize) -> Called
     requires { ⌜ Counted counts (seen .phase) × (at + mostValues ≤ length (now out)) ⌝ }
     ensures { λ r. ⌜ RanReceive seen counts to (now (out .entry)) at r (now (out .exit)) ⌝ }
 {

@@ -8,7 +8,6 @@ use lib.ListN.{set}
 use borrow.Author.Tests.{not-false}
 use Rattle.lists.proofs.Tests.{and-left}
 use Rattle.lists.specs.Lists.{allPass}
-use Rattle.view.specs.View.{fits}
 use Rattle.view.specs.declared.Place.{Place}
 use Rattle.view.specs.declared.View.{View}
 use Rattle.line.specs.declared.Phase.{Phase}

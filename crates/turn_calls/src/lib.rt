@@ -180,19 +180,21 @@ fn take_by(
 }
 
 // 04: a holder for a shared purpose takes a region and releases; `fitting` is whether its records fit from the place that it holds.
-pub fn take(
-    seen: Seen,
-    fitting: bool,
-    flags: &[u8; MOST_LANES],
-    lane: u8,
-    count: u16,
-) -> Change
+pub fn take(seen: Seen, fitting: bool, flags: &[u8; MOST_LANES], lane: u8, count: u16) -> Change
     requires { ⌜ placeIn (seen .phase) .0 ≤ mostPointer ⌝ }
     ensures { λ r. ⌜ r ≡ takenFrom seen fitting (now (flags .entry)) lane count (seen .phase) ⌝ }
 {
     let phase = seen.phase;
     match phase {
-        Phase::Holding(purpose, value) => take_by(seen, fitting, flags, lane, purpose, value, count),
+        Phase::Holding(purpose, value) => take_by(
+            seen,
+            fitting,
+            flags,
+            lane,
+            purpose,
+            value,
+            count,
+        ),
         _ => refuse(seen, 13),
     }
 }

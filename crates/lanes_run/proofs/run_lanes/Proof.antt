@@ -1,8 +1,7 @@
 -- `run_lanes` meets its contract: each turn of the loop is one event of the run.
-use Prim.Native.Nat.{ℕ, _+_, _-_, _*_, _≤_, _<_}
-use mathlib.Core.Path.{_≡_, refl, sym, ap, _∙_}
+use Prim.Native.Nat.{ℕ, _+_, _-_, _≤_, _<_}
+use mathlib.Core.Path.{_≡_, ap, _∙_}
 use mathlib.Core.Logic.{⊎-elim}
-use mathlib.Core.Bool.{true, false}
 use native.Mathlib.Omega.{arith}
 use lib.ListN.{length}
 use borrow.Author.Tests.{not-false, not-true}
@@ -11,7 +10,6 @@ use Rattle.line.specs.declared.Lane.{Lane}
 use Rattle.line.specs.declared.Line.{Line}
 use Rattle.lane_tests.specs.Rules.{countsOf}
 use Rattle.line_number.specs.Numbered.{Keeps}
-use Rattle.line_number.specs.declared.LineNumber.{LineNumber}
 use Rattle.changes.specs.Change.{entryOf, seenOf}
 use Rattle.changes.specs.declared.Seen.{Seen}
 use Rattle.number_text.proofs.Decimal.{few-digits}
@@ -58,10 +56,12 @@ loop-holds : tie.Need-loop-holds Inv-loop μ-loop
 loop-holds c =
     let s = start-of c in
     let keeps = c .plain-number .ensures in
-    let B = s .pre in
-    (starts (s .args .sheet .now) (s .args .from .line) (s .args .book .now) (s .args .out .now) (s .args .from .at) (s .args .from .length) (c .plain-number .result .number)
-      (B .shaped) (B .is-sound) (B .inside) (omega (arith, keeps .number, B .numbered)) (B .short),
-     c .before .counts-of .ensures, keeps-own keeps)
+    let B = s .pre in (
+      starts (s .args .sheet .now) (s .args .from .line) (s .args .book .now) (s .args .out .now) (s .args .from .at) (s .args .from .length) (c .plain-number .result .number)
+          (B .shaped) (B .is-sound) (B .inside) (omega (arith, keeps .number, B .numbered)) (B .short),
+      c .before .counts-of .ensures,
+      keeps-own keeps,
+    )
 
 put-line-number-requires : tie.Need-put-line-number-requires Inv-loop μ-loop
 put-line-number-requires c κs = let l = c .before .before .before .before .before .before in (l .loop .inv .2, omega (arith, room l))
@@ -92,9 +92,10 @@ call-lane-requires c κs =
     let e = entry-of see in
     let l = entry-loop e in
     let I = l .loop .inv in
-    let B = start l .pre in
-    (ready-as (now-line l) (entryOf (lane-of e)) (sees see) (I .1) (B .tiles) (B .table) (ready (now-line l) (length (l .loop .book)) (I .0 .shaped) (good-state (I .0)) (entryOf (lane-of e)) (omega arith)),
-     record { kind = headed e .kind; fields = headed e .room; text = omega (arith, put .put-line-number .ensures .ends, few-digits 19 (l .loop .number .number) (omega (arith, number-small l)), room l, put .put-line-number .kept .0) })
+    let B = start l .pre in (
+      ready-as (now-line l) (entryOf (lane-of e)) (sees see) (I .1) (B .tiles) (B .table) (ready (now-line l) (length (l .loop .book)) (I .0 .shaped) (good-state (I .0)) (entryOf (lane-of e)) (omega arith)),
+      record { kind = headed e .kind; fields = headed e .room; text = omega (arith, put .put-line-number .ensures .ends, few-digits 19 (l .loop .number .number) (omega (arith, number-small l)), room l, put .put-line-number .kept .0) },
+    )
 
 -- ---- the indices of the stores
 array-write-flag : tie.Need-array-write-flag Inv-loop μ-loop
@@ -156,31 +157,31 @@ loop-less c =
     let h = head .result in
     ⊎-elim
     (λ w.
-      let seen = sees-now (now-line l) (w .1 .result) (entryOf (h .lane)) (l .loop .counts) (w .3 .result) (w .1 .ensures .0) (I .1) (w .3 .ensures) in
-      let m = moves (start l .args .sheet .now) _ _ _ _ _ (now-line l) (l .loop .book) (l .loop .out) (l .loop .at) (l .loop .length) (l .loop .number .number) (I .0) (omega (arith, number-small l)) h (head .ensures .call (w .0 .taken)) (w .3 .result) seen (l .loop .counts) (I .1)
-      _ _ (w .5 .ensures) (w .11 .result) _ _ (ran-as (line l .view) (B .tiles) (B .table) (w .11 .ensures)) (w .11 .kept .1 .1 .1 .1 .1 .1 .0) (w .11 .kept .1 .1 .1 .1 .1 .1 .1 .1 .0 ∙ w .5 .kept .0) in
-      omega (arith, w .34, m .0, m .1))
+    let seen = sees-now (now-line l) (w .1 .result) (entryOf (h .lane)) (l .loop .counts) (w .3 .result) (w .1 .ensures .0) (I .1) (w .3 .ensures) in
+    let m = moves (start l .args .sheet .now) _ _ _ _ _ (now-line l) (l .loop .book) (l .loop .out) (l .loop .at) (l .loop .length) (l .loop .number .number) (I .0) (omega (arith, number-small l)) h (head .ensures .call (w .0 .taken)) (w .3 .result) seen (l .loop .counts) (I .1)
+    _ _ (w .5 .ensures) (w .11 .result) _ _ (ran-as (line l .view) (B .tiles) (B .table) (w .11 .ensures)) (w .11 .kept .1 .1 .1 .1 .1 .1 .0) (w .11 .kept .1 .1 .1 .1 .1 .1 .1 .1 .0 ∙ w .5 .kept .0) in
+    omega (arith, w .34, m .0, m .1))
     (⊎-elim
     (λ w.
-      let seen = sees-now (now-line l) (w .1 .result) (entryOf (h .lane)) (l .loop .counts) (w .3 .result) (w .1 .ensures .0) (I .1) (w .3 .ensures) in
-      let m = moves (start l .args .sheet .now) _ _ _ _ _ (now-line l) (l .loop .book) (l .loop .out) (l .loop .at) (l .loop .length) (l .loop .number .number) (I .0) (omega (arith, number-small l)) h (head .ensures .call (w .0 .taken)) (w .3 .result) seen (l .loop .counts) (I .1)
-      _ _ (w .5 .ensures) (w .11 .result) _ _ (ran-as (line l .view) (B .tiles) (B .table) (w .11 .ensures)) (w .11 .kept .1 .1 .1 .1 .1 .1 .0) (w .11 .kept .1 .1 .1 .1 .1 .1 .1 .1 .0 ∙ w .5 .kept .0) in
-      omega (arith, w .34, m .0, m .1))
+    let seen = sees-now (now-line l) (w .1 .result) (entryOf (h .lane)) (l .loop .counts) (w .3 .result) (w .1 .ensures .0) (I .1) (w .3 .ensures) in
+    let m = moves (start l .args .sheet .now) _ _ _ _ _ (now-line l) (l .loop .book) (l .loop .out) (l .loop .at) (l .loop .length) (l .loop .number .number) (I .0) (omega (arith, number-small l)) h (head .ensures .call (w .0 .taken)) (w .3 .result) seen (l .loop .counts) (I .1)
+    _ _ (w .5 .ensures) (w .11 .result) _ _ (ran-as (line l .view) (B .tiles) (B .table) (w .11 .ensures)) (w .11 .kept .1 .1 .1 .1 .1 .1 .0) (w .11 .kept .1 .1 .1 .1 .1 .1 .1 .1 .0 ∙ w .5 .kept .0) in
+    omega (arith, w .34, m .0, m .1))
     (⊎-elim
     (λ w.
-      let seen = sees-now (now-line l) (w .1 .result) (entryOf (h .lane)) (l .loop .counts) (w .3 .result) (w .1 .ensures .0) (I .1) (w .3 .ensures) in
-      let m = moves (start l .args .sheet .now) _ _ _ _ _ (now-line l) (l .loop .book) (l .loop .out) (l .loop .at) (l .loop .length) (l .loop .number .number) (I .0) (omega (arith, number-small l)) h (head .ensures .call (w .0 .taken)) (w .3 .result) seen (l .loop .counts) (I .1)
-      _ _ (w .5 .ensures) (w .11 .result) _ _ (ran-as (line l .view) (B .tiles) (B .table) (w .11 .ensures)) (w .11 .kept .1 .1 .1 .1 .1 .1 .0) (w .11 .kept .1 .1 .1 .1 .1 .1 .1 .1 .0 ∙ w .5 .kept .0) in
-      omega (arith, w .31, m .0, m .1))
+    let seen = sees-now (now-line l) (w .1 .result) (entryOf (h .lane)) (l .loop .counts) (w .3 .result) (w .1 .ensures .0) (I .1) (w .3 .ensures) in
+    let m = moves (start l .args .sheet .now) _ _ _ _ _ (now-line l) (l .loop .book) (l .loop .out) (l .loop .at) (l .loop .length) (l .loop .number .number) (I .0) (omega (arith, number-small l)) h (head .ensures .call (w .0 .taken)) (w .3 .result) seen (l .loop .counts) (I .1)
+    _ _ (w .5 .ensures) (w .11 .result) _ _ (ran-as (line l .view) (B .tiles) (B .table) (w .11 .ensures)) (w .11 .kept .1 .1 .1 .1 .1 .1 .0) (w .11 .kept .1 .1 .1 .1 .1 .1 .1 .1 .0 ∙ w .5 .kept .0) in
+    omega (arith, w .31, m .0, m .1))
     (⊎-elim
     (λ w.
-      let seen = sees-now (now-line l) (w .1 .result) (entryOf (h .lane)) (l .loop .counts) (w .3 .result) (w .1 .ensures .0) (I .1) (w .3 .ensures) in
-      let m = moves (start l .args .sheet .now) _ _ _ _ _ (now-line l) (l .loop .book) (l .loop .out) (l .loop .at) (l .loop .length) (l .loop .number .number) (I .0) (omega (arith, number-small l)) h (head .ensures .call (w .0 .taken)) (w .3 .result) seen (l .loop .counts) (I .1)
-      _ _ (w .5 .ensures) (w .11 .result) _ _ (ran-as (line l .view) (B .tiles) (B .table) (w .11 .ensures)) (w .11 .kept .1 .1 .1 .1 .1 .1 .0) (w .11 .kept .1 .1 .1 .1 .1 .1 .1 .1 .0 ∙ w .5 .kept .0) in
-      omega (arith, w .25, m .0, m .1))
+    let seen = sees-now (now-line l) (w .1 .result) (entryOf (h .lane)) (l .loop .counts) (w .3 .result) (w .1 .ensures .0) (I .1) (w .3 .ensures) in
+    let m = moves (start l .args .sheet .now) _ _ _ _ _ (now-line l) (l .loop .book) (l .loop .out) (l .loop .at) (l .loop .length) (l .loop .number .number) (I .0) (omega (arith, number-small l)) h (head .ensures .call (w .0 .taken)) (w .3 .result) seen (l .loop .counts) (I .1)
+    _ _ (w .5 .ensures) (w .11 .result) _ _ (ran-as (line l .view) (B .tiles) (B .table) (w .11 .ensures)) (w .11 .kept .1 .1 .1 .1 .1 .1 .0) (w .11 .kept .1 .1 .1 .1 .1 .1 .1 .1 .0 ∙ w .5 .kept .0) in
+    omega (arith, w .25, m .0, m .1))
     (λ w.
-      let m = line-moves (w .3 .ensures .yes (not-false _ (w .7 .left))) in
-      omega (arith, w .15, m .0, m .1)))))
+    let m = line-moves (w .3 .ensures .yes (not-false _ (w .7 .left))) in
+    omega (arith, w .15, m .0, m .1)))))
     (c .before .if1 .came)
 
 loop-again : tie.Need-loop-again Inv-loop μ-loop
@@ -193,32 +194,32 @@ loop-again c =
     let keeps = c .next-number .ensures in
     ⊎-elim
     (λ w.
-      let seen = sees-now (now-line l) (w .1 .result) (entryOf (h .lane)) (l .loop .counts) (w .3 .result) (w .1 .ensures .0) (I .1) (w .3 .ensures) in
-      turned (line l) (w .27) (w .28) (w .29) (w .30) (w .31) (w .32) (w .33) (w .34) (w .35) (woken-on (start l .args .sheet .now) _ _ _ _ _ (now-line l) (l .loop .book) (l .loop .out) (l .loop .at) (l .loop .length) (l .loop .number .number) (I .0) (omega (arith, number-small l)) h (head .ensures .call (w .0 .taken)) (w .3 .result) seen (l .loop .counts) (I .1)
-      _ _ (w .5 .ensures) (w .11 .result) _ _ (ran-as (line l .view) (B .tiles) (B .table) (w .11 .ensures)) (w .11 .kept .1 .1 .1 .1 .1 .1 .0) (w .11 .kept .1 .1 .1 .1 .1 .1 .1 .1 .0 ∙ w .5 .kept .0) (w .1 .result) (w .1 .ensures .0) (not-true _ (w .17 .taken)) (w .22 .given .0 .0) (w .24 .result) (w .26 .result .phase) (w .22 .given .1) (w .24 .ensures .0) (ap (λ (x : Lane). x .phase) (w .26 .ensures)))
-      (woken-on-counts (start l .args .sheet .now) _ _ _ _ _ (now-line l) (l .loop .book) (l .loop .out) (l .loop .at) (l .loop .length) (l .loop .number .number) (I .0) (omega (arith, number-small l)) h (head .ensures .call (w .0 .taken)) (w .3 .result) seen (l .loop .counts) (I .1)
-      _ _ (w .5 .ensures) (w .11 .result) _ _ (ran-as (line l .view) (B .tiles) (B .table) (w .11 .ensures)) (w .11 .kept .1 .1 .1 .1 .1 .1 .0) (w .11 .kept .1 .1 .1 .1 .1 .1 .1 .1 .0 ∙ w .5 .kept .0) (w .1 .result) (w .1 .ensures .0) (not-true _ (w .17 .taken)) (w .22 .given .0 .0) (w .24 .result) (w .26 .result .phase) (w .22 .given .1) (w .24 .ensures .0) (ap (λ (x : Lane). x .phase) (w .26 .ensures))) keeps)
+    let seen = sees-now (now-line l) (w .1 .result) (entryOf (h .lane)) (l .loop .counts) (w .3 .result) (w .1 .ensures .0) (I .1) (w .3 .ensures) in
+    turned (line l) (w .27) (w .28) (w .29) (w .30) (w .31) (w .32) (w .33) (w .34) (w .35) (woken-on (start l .args .sheet .now) _ _ _ _ _ (now-line l) (l .loop .book) (l .loop .out) (l .loop .at) (l .loop .length) (l .loop .number .number) (I .0) (omega (arith, number-small l)) h (head .ensures .call (w .0 .taken)) (w .3 .result) seen (l .loop .counts) (I .1)
+    _ _ (w .5 .ensures) (w .11 .result) _ _ (ran-as (line l .view) (B .tiles) (B .table) (w .11 .ensures)) (w .11 .kept .1 .1 .1 .1 .1 .1 .0) (w .11 .kept .1 .1 .1 .1 .1 .1 .1 .1 .0 ∙ w .5 .kept .0) (w .1 .result) (w .1 .ensures .0) (not-true _ (w .17 .taken)) (w .22 .given .0 .0) (w .24 .result) (w .26 .result .phase) (w .22 .given .1) (w .24 .ensures .0) (ap (λ (x : Lane). x .phase) (w .26 .ensures)))
+    (woken-on-counts (start l .args .sheet .now) _ _ _ _ _ (now-line l) (l .loop .book) (l .loop .out) (l .loop .at) (l .loop .length) (l .loop .number .number) (I .0) (omega (arith, number-small l)) h (head .ensures .call (w .0 .taken)) (w .3 .result) seen (l .loop .counts) (I .1)
+    _ _ (w .5 .ensures) (w .11 .result) _ _ (ran-as (line l .view) (B .tiles) (B .table) (w .11 .ensures)) (w .11 .kept .1 .1 .1 .1 .1 .1 .0) (w .11 .kept .1 .1 .1 .1 .1 .1 .1 .1 .0 ∙ w .5 .kept .0) (w .1 .result) (w .1 .ensures .0) (not-true _ (w .17 .taken)) (w .22 .given .0 .0) (w .24 .result) (w .26 .result .phase) (w .22 .given .1) (w .24 .ensures .0) (ap (λ (x : Lane). x .phase) (w .26 .ensures))) keeps)
     (⊎-elim
     (λ w.
-      let seen = sees-now (now-line l) (w .1 .result) (entryOf (h .lane)) (l .loop .counts) (w .3 .result) (w .1 .ensures .0) (I .1) (w .3 .ensures) in
-      turned (line l) (w .27) (w .28) (w .29) (w .30) (w .31) (w .32) (w .33) (w .34) (w .35) (rw (w .25 .ensures) (started-on (start l .args .sheet .now) _ _ _ _ _ (now-line l) (l .loop .book) (l .loop .out) (l .loop .at) (l .loop .length) (l .loop .number .number) (I .0) (omega (arith, number-small l)) h (head .ensures .call (w .0 .taken)) (w .3 .result) seen (l .loop .counts) (I .1)
-      _ _ (w .5 .ensures) (w .11 .result) _ _ (ran-as (line l .view) (B .tiles) (B .table) (w .11 .ensures)) (w .11 .kept .1 .1 .1 .1 .1 .1 .0) (w .11 .kept .1 .1 .1 .1 .1 .1 .1 .1 .0 ∙ w .5 .kept .0) (w .1 .result) (w .1 .ensures .0) (not-true _ (w .17 .taken)) (w .23 .taken)))
-      (w .26 .ensures) keeps)
+    let seen = sees-now (now-line l) (w .1 .result) (entryOf (h .lane)) (l .loop .counts) (w .3 .result) (w .1 .ensures .0) (I .1) (w .3 .ensures) in
+    turned (line l) (w .27) (w .28) (w .29) (w .30) (w .31) (w .32) (w .33) (w .34) (w .35) (rw (w .25 .ensures) (started-on (start l .args .sheet .now) _ _ _ _ _ (now-line l) (l .loop .book) (l .loop .out) (l .loop .at) (l .loop .length) (l .loop .number .number) (I .0) (omega (arith, number-small l)) h (head .ensures .call (w .0 .taken)) (w .3 .result) seen (l .loop .counts) (I .1)
+    _ _ (w .5 .ensures) (w .11 .result) _ _ (ran-as (line l .view) (B .tiles) (B .table) (w .11 .ensures)) (w .11 .kept .1 .1 .1 .1 .1 .1 .0) (w .11 .kept .1 .1 .1 .1 .1 .1 .1 .1 .0 ∙ w .5 .kept .0) (w .1 .result) (w .1 .ensures .0) (not-true _ (w .17 .taken)) (w .23 .taken)))
+    (w .26 .ensures) keeps)
     (⊎-elim
     (λ w.
-      let seen = sees-now (now-line l) (w .1 .result) (entryOf (h .lane)) (l .loop .counts) (w .3 .result) (w .1 .ensures .0) (I .1) (w .3 .ensures) in
-      turned (line l) (w .24) (w .25) (w .26) (w .27) (w .28) (w .29) (w .30) (w .31) (w .32) (none-on (start l .args .sheet .now) _ _ _ _ _ (now-line l) (l .loop .book) (l .loop .out) (l .loop .at) (l .loop .length) (l .loop .number .number) (I .0) (omega (arith, number-small l)) h (head .ensures .call (w .0 .taken)) (w .3 .result) seen (l .loop .counts) (I .1)
-      _ _ (w .5 .ensures) (w .11 .result) _ _ (ran-as (line l .view) (B .tiles) (B .table) (w .11 .ensures)) (w .11 .kept .1 .1 .1 .1 .1 .1 .0) (w .11 .kept .1 .1 .1 .1 .1 .1 .1 .1 .0 ∙ w .5 .kept .0) (w .1 .result) (w .1 .ensures .0) (not-true _ (w .17 .taken)) (w .22 .given .1) (w .23 .left))
-      (none-on-counts (start l .args .sheet .now) _ _ _ _ _ (now-line l) (l .loop .book) (l .loop .out) (l .loop .at) (l .loop .length) (l .loop .number .number) (I .0) (omega (arith, number-small l)) h (head .ensures .call (w .0 .taken)) (w .3 .result) seen (l .loop .counts) (I .1)
-      _ _ (w .5 .ensures) (w .11 .result) _ _ (ran-as (line l .view) (B .tiles) (B .table) (w .11 .ensures)) (w .11 .kept .1 .1 .1 .1 .1 .1 .0) (w .11 .kept .1 .1 .1 .1 .1 .1 .1 .1 .0 ∙ w .5 .kept .0) (w .1 .result) (w .1 .ensures .0) (not-true _ (w .17 .taken)) (w .22 .given .1) (w .23 .left)) keeps)
+    let seen = sees-now (now-line l) (w .1 .result) (entryOf (h .lane)) (l .loop .counts) (w .3 .result) (w .1 .ensures .0) (I .1) (w .3 .ensures) in
+    turned (line l) (w .24) (w .25) (w .26) (w .27) (w .28) (w .29) (w .30) (w .31) (w .32) (none-on (start l .args .sheet .now) _ _ _ _ _ (now-line l) (l .loop .book) (l .loop .out) (l .loop .at) (l .loop .length) (l .loop .number .number) (I .0) (omega (arith, number-small l)) h (head .ensures .call (w .0 .taken)) (w .3 .result) seen (l .loop .counts) (I .1)
+    _ _ (w .5 .ensures) (w .11 .result) _ _ (ran-as (line l .view) (B .tiles) (B .table) (w .11 .ensures)) (w .11 .kept .1 .1 .1 .1 .1 .1 .0) (w .11 .kept .1 .1 .1 .1 .1 .1 .1 .1 .0 ∙ w .5 .kept .0) (w .1 .result) (w .1 .ensures .0) (not-true _ (w .17 .taken)) (w .22 .given .1) (w .23 .left))
+    (none-on-counts (start l .args .sheet .now) _ _ _ _ _ (now-line l) (l .loop .book) (l .loop .out) (l .loop .at) (l .loop .length) (l .loop .number .number) (I .0) (omega (arith, number-small l)) h (head .ensures .call (w .0 .taken)) (w .3 .result) seen (l .loop .counts) (I .1)
+    _ _ (w .5 .ensures) (w .11 .result) _ _ (ran-as (line l .view) (B .tiles) (B .table) (w .11 .ensures)) (w .11 .kept .1 .1 .1 .1 .1 .1 .0) (w .11 .kept .1 .1 .1 .1 .1 .1 .1 .1 .0 ∙ w .5 .kept .0) (w .1 .result) (w .1 .ensures .0) (not-true _ (w .17 .taken)) (w .22 .given .1) (w .23 .left)) keeps)
     (⊎-elim
     (λ w.
-      let seen = sees-now (now-line l) (w .1 .result) (entryOf (h .lane)) (l .loop .counts) (w .3 .result) (w .1 .ensures .0) (I .1) (w .3 .ensures) in
-      turned (line l) (w .18) (w .19) (w .20) (w .21) (w .22) (w .23) (w .24) (w .25) (w .26) (refused-on (start l .args .sheet .now) _ _ _ _ _ (now-line l) (l .loop .book) (l .loop .out) (l .loop .at) (l .loop .length) (l .loop .number .number) (I .0) (omega (arith, number-small l)) h (head .ensures .call (w .0 .taken)) (w .3 .result) seen (l .loop .counts) (I .1)
-      _ _ (w .5 .ensures) (w .11 .result) _ _ (ran-as (line l .view) (B .tiles) (B .table) (w .11 .ensures)) (w .11 .kept .1 .1 .1 .1 .1 .1 .0) (w .11 .kept .1 .1 .1 .1 .1 .1 .1 .1 .0 ∙ w .5 .kept .0) (not-false _ (w .17 .left))) (I .1) keeps)
+    let seen = sees-now (now-line l) (w .1 .result) (entryOf (h .lane)) (l .loop .counts) (w .3 .result) (w .1 .ensures .0) (I .1) (w .3 .ensures) in
+    turned (line l) (w .18) (w .19) (w .20) (w .21) (w .22) (w .23) (w .24) (w .25) (w .26) (refused-on (start l .args .sheet .now) _ _ _ _ _ (now-line l) (l .loop .book) (l .loop .out) (l .loop .at) (l .loop .length) (l .loop .number .number) (I .0) (omega (arith, number-small l)) h (head .ensures .call (w .0 .taken)) (w .3 .result) seen (l .loop .counts) (I .1)
+    _ _ (w .5 .ensures) (w .11 .result) _ _ (ran-as (line l .view) (B .tiles) (B .table) (w .11 .ensures)) (w .11 .kept .1 .1 .1 .1 .1 .1 .0) (w .11 .kept .1 .1 .1 .1 .1 .1 .1 .1 .0 ∙ w .5 .kept .0) (not-false _ (w .17 .left))) (I .1) keeps)
     (λ w.
-      let refused = w .3 .ensures .yes (not-false _ (w .7 .left)) in
-      turned (line l) (w .8) (w .9) (w .10) (w .11) (w .12) (w .13) (w .14) (w .15) (w .16) (line-refused-on (I .0) (I .1) (w .1 .ensures) refused (w .3 .kept .1 .1 .1 .1 .1 .0)) (I .1) keeps))))
+    let refused = w .3 .ensures .yes (not-false _ (w .7 .left)) in
+    turned (line l) (w .8) (w .9) (w .10) (w .11) (w .12) (w .13) (w .14) (w .15) (w .16) (line-refused-on (I .0) (I .1) (w .1 .ensures) refused (w .3 .kept .1 .1 .1 .1 .1 .0)) (I .1) keeps))))
     (c .before .if1 .came)
 
 pub run-lanes-spec : {M : Type 1} → statement M

@@ -1,13 +1,9 @@
 -- `call_enter` meets its contract: read, decided and printed.
-use mathlib.Core.Path.{_≡_, refl, sym, ap, _∙_}
-use mathlib.Core.List.{[], _∷_}
+use mathlib.Core.Path.{_≡_, sym, ap, _∙_}
 use native.Mathlib.Omega.{arith}
 use Rattle.decode_fields.specs.Fields.{said16}
 use Rattle.decode_fields.proofs.InOrder.{missed}
-use Rattle.ordered_calls.specs.declared.Entered.{Entered}
-use Rattle.steps.specs.declared.Answer.{Answer}
-use Rattle.changes.specs.declared.Change.{Change}
-use Rattle.sheet_calls.specs.Calls.{Reaches, enterChange, isRefusal, tableEntered}
+use Rattle.sheet_calls.specs.Calls.{tableEntered}
 use borrow.Author.Needs.{needs}
 use Rattle.sheet_calls.proofs.enter.call_enter.Statement.{statement}
 use Rattle.sheet_calls.proofs.enter.call_enter.Tie as tie

@@ -2,7 +2,6 @@
 use mathlib.Core.Path.{ap, sym, _∙_}
 use native.Mathlib.Omega.{arith}
 use Rattle.ordered_calls.specs.Settled.{isAccepted}
-use Rattle.ordered_calls.specs.declared.Entered.{Entered}
 use Rattle.sheet_calls.specs.Calls.{enterChange}
 use borrow.Author.Needs.{needs}
 use Rattle.sheet_calls.proofs.enter.enter_change.Statement.{statement}

@@ -4,7 +4,6 @@ use mathlib.Core.Path.{_≡_, refl, sym, ap, _∙_}
 use mathlib.Core.Bool.{true}
 use mathlib.Core.List.{List, [], _∷_}
 use native.Mathlib.Omega.{arith}
-use lib.ListN.{length}
 use Rattle.view.specs.declared.Position.{Position}
 use Rattle.tiling.specs.Tiling.{tablePosition}
 use Rattle.line.specs.Line.{placeIn}
