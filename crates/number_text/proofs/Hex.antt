@@ -70,14 +70,3 @@ next-stored n k d stored same = rw same (then-byte k (hexDigit (n / 16 ^ (15 - k
 -- ---- which numbers are digits
 pub digit-below : (n : ℕ) → n % 16 < 16
 digit-below n = omega arith
-
--- a number that is none of the first ones, as the last arm of a match says it of the arms before
-abbrev pub NoneBelow : ℕ → ℕ → Type 0
-NoneBelow zero d = Unit {0}
-NoneBelow (suc k) d = NoneBelow k d × (d ≡ k → ⊥)
-
-pub none-below : (k d : ℕ) → NoneBelow k d → k ≤ d
-none-below zero d others = omega arith
-none-below (suc k) d others =
-    let least = none-below k d (others .0) in
-    omega (arith, others .1)

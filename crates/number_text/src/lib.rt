@@ -61,29 +61,13 @@ pub fn put_decimal(out: &mut [u8], at: usize, n: u64) -> usize
     put_long(out, at, n)
 }
 
-// A hexadecimal digit, in lowercase.
+// A hexadecimal digit, in lowercase: a letter stands 39 past where the digits would go on.
+// By arithmetic and not by a match, so that the compiler makes sixteen of them in vector operations.
 fn hex_digit(d: u64) -> u8
     requires { ⌜ d < 16 ⌝ }
     ensures { λ r. ⌜ r ≡ hexDigit d ⌝ }
 {
-    match d {
-        0 => b'0',
-        1 => b'1',
-        2 => b'2',
-        3 => b'3',
-        4 => b'4',
-        5 => b'5',
-        6 => b'6',
-        7 => b'7',
-        8 => b'8',
-        9 => b'9',
-        10 => b'a',
-        11 => b'b',
-        12 => b'c',
-        13 => b'd',
-        14 => b'e',
-        _ => b'f',
-    }
+    (48 + d + (d + 6) / 16 * 39) as u8
 }
 
 // A number in 16 hexadecimal digits from an index on; the index after it.

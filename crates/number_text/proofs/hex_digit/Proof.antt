@@ -1,33 +1,24 @@
--- `number_text::hex_digit` meets its contract: an arm for each digit, and the last for what is left, which is 15.
-use mathlib.Core.Path.{_≡_}
+-- `number_text::hex_digit` meets its contract: 16 goes into the digit and 6 not at all below 10, and once from there on.
 use native.Mathlib.Omega.{arith}
-use Rattle.number_text.proofs.Hex.{none-below}
+use lib.Dec.{ltb}
+use borrow.Author.Needs.{needs}
+use borrow.Author.Tests.{ltb-false, ltb-true}
+use Rattle.lists.proofs.Tests.{by-test}
 use Rattle.number_text.proofs.hex_digit.Statement.{statement}
 use Rattle.number_text.proofs.hex_digit.Tie as tie
 
-returns-16 : tie.Need-returns-16
-returns-16 c =
-    let d = c .before .args .d in
-    let last : d ≡ 15 = omega (arith, none-below 15 d (c .match .rest)) in
-    rw last
+returns : tie.Need-returns
+returns c =
+    let d = c .args .d in
+    by-test (ltb d 10) (λ t. rw t (omega (arith, ltb-true d 10 t))) (λ f. rw f (omega (arith, ltb-false d 10 f, c .pre)))
 
 pub hex-digit-spec : {M : Type 1} → statement M
 hex-digit-spec =
     tie.close
     (tie.spec
-    (λ c. rw (c .match .keys1))
-    (λ c. rw (c .match .keys2))
-    (λ c. rw (c .match .keys3))
-    (λ c. rw (c .match .keys4))
-    (λ c. rw (c .match .keys5))
-    (λ c. rw (c .match .keys6))
-    (λ c. rw (c .match .keys7))
-    (λ c. rw (c .match .keys8))
-    (λ c. rw (c .match .keys9))
-    (λ c. rw (c .match .keys10))
-    (λ c. rw (c .match .keys11))
-    (λ c. rw (c .match .keys12))
-    (λ c. rw (c .match .keys13))
-    (λ c. rw (c .match .keys14))
-    (λ c. rw (c .match .keys15))
-    returns-16)
+    (λ c. search needs)
+    (λ c. search needs)
+    (λ c. search needs)
+    (λ c. search needs)
+    (λ c. search needs)
+    returns)
