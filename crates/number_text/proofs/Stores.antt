@@ -30,3 +30,7 @@ pub then-byte : {text before after : List ℕ} {at : ℕ} (k byte : ℕ) → Sto
 then-byte {text} {before} {after} {at} k byte stored =
     let both = and-then stored (one-byte after (at + k) byte) in
     record { bytes = both .bytes; ends = omega (arith, both .ends) }
+
+-- two bytes, one after the other
+pub two-bytes : (before : List ℕ) (at : ℕ) {low high a b : ℕ} → low ≡ a → high ≡ b → Stored (a ∷ b ∷ []) before at (set (set before at low) (at + 1) high) (at + 2)
+two-bytes before at {low} {high} {a} {b} first second = rw (first, second) (then-byte 1 b (one-byte before at a))

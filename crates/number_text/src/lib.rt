@@ -7,14 +7,14 @@ ghost use Rattle.printout.specs.Print.{decimal, hexDigit, hexIn};
 ghost use Rattle.number_text.specs.Stored.{Stored};
 
 // The two digits of a number below 100 from an index on; the index after them.
+// Both are made as one word, the first in its low byte, so that the compiler stores them at once.
 pub fn put_pair(out: &mut [u8], at: usize, n: u64) -> usize
     requires { ⌜ (n < 100) × (at + 2 ≤ length (now out)) ⌝ }
     ensures { λ r. ⌜ Stored ((48 + n / 10) ∷ (48 + n % 10) ∷ []) (now (out .entry)) at (now (out .exit)) r ⌝ }
 {
-    let tens = n / 10;
-    let ones = n % 10;
-    out[at] = b'0' + tens as u8;
-    out[at + 1] = b'0' + ones as u8;
+    let word = 48 + n / 10 + (48 + n % 10) * 256;
+    out[at] = (word % 256) as u8;
+    out[at + 1] = (word / 256) as u8;
     at + 2
 }
 
