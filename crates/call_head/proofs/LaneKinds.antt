@@ -63,6 +63,10 @@ above-lane kind h = by-test (laneKind kind) (λ t. absurd (omega (arith, to-ten 
 pub rest-body : (kind : ℕ) → laneKind kind ≡ true → bodyLength kind ≡ 1 + total (restOf kind)
 rest-body kind t = by-lane (λ (k : ℕ). bodyLength k ≡ 1 + total (restOf k)) refl refl refl refl refl refl refl refl refl kind t
 
+-- no kind has more than 12 bytes past the lane
+pub few-rest : (kind : ℕ) → laneKind kind ≡ true → total (restOf kind) ≤ 12
+few-rest kind t = by-lane (λ (k : ℕ). total (restOf k) ≤ 12) (omega arith) (omega arith) (omega arith) (omega arith) (omega arith) (omega arith) (omega arith) (omega arith) (omega arith) kind t
+
 -- ---- the event of a kind
 -- a call of a lane is of one of these kinds
 kind-named : (lane : ℕ) (call : LaneCall) → laneKind (kindOf (laneEvent lane call)) ≡ true

@@ -29,12 +29,17 @@ fn no_head() -> Head
     }
 }
 
-// Whether a sheet has `n` bytes from an index of it on.
-fn has_rest(sheet: &[u8], to: usize, n: usize) -> bool
-    requires { ⌜ to ≤ length (now sheet) ⌝ }
-    ensures { λ r. ⌜ r ≡ leb (to + n) (length (now (sheet .entry))) ⌝ }
+// Whether a sheet has the fields past the lane whole, from an index of it on.
+// No kind has more than 12 bytes there, so that mostly the kind need not be looked at.
+fn has_rest(sheet: &[u8], to: usize, kind: u8) -> bool
+    requires { ⌜ (to ≤ length (now sheet)) × (laneKind kind ≡ true) ⌝ }
+    ensures { λ r. ⌜ r ≡ leb (to + total (restOf kind)) (length (now (sheet .entry))) ⌝ }
 {
-    n <= sheet.len() - to
+    let left = sheet.len() - to;
+    if 12 <= left {
+        return true;
+    }
+    rest_of(kind) <= left
 }
 
 // The length of the fields past the lane.
@@ -73,6 +78,6 @@ pub fn head_at(sheet: &[u8], at: usize) -> Head
         kind,
         lane,
         to,
-        whole: has_rest(sheet, to, rest_of(kind)),
+        whole: has_rest(sheet, to, kind),
     }
 }

@@ -64,17 +64,14 @@ returns-4 c =
     let lane = t .before .before .before in
     record { call = λ w. both w (c .no-head4 .ensures); other = λ z. other-no-lane (start lane .args .sheet .now) (start lane .args .at) _ _ _ (headed lane) (above-lane _ (t .if2 .taken)) }
 
-rest-of-requires : tie.Need-rest-of-requires
-rest-of-requires c κs = is-one c
-
 has-rest-requires : tie.Need-has-rest-requires
-has-rest-requires c κs = let g = headed (lane-at (c .before)) in omega (arith, g .past, g .room)
+has-rest-requires c κs = let g = headed (lane-at c) in (omega (arith, g .past, g .room), is-one c)
 
 returns-5 : tie.Need-returns-5
 returns-5 c =
-    let e = c .before .before in
+    let e = c .before in
     let lane = lane-at e in
-    let room = rw (c .before .rest-of .ensures .0) at (c .has-rest .ensures) in
+    let room = c .has-rest .ensures in
     record {
       call = λ w. record { fields = sym (got-said (headed lane)); kind = is-one e; room = leb-true _ _ (sym room ∙ w) };
       other = λ z. short-no-lane (start lane .args .sheet .now) (start lane .args .at) _ _ _ (headed lane) (is-one e) (leb-false _ _ (sym room ∙ z));
@@ -98,6 +95,5 @@ head-at-spec =
     returns-3
     (λ c κs. search needs)
     returns-4
-    rest-of-requires
     has-rest-requires
     returns-5)
