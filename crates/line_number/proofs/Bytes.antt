@@ -10,7 +10,7 @@ use Rattle.event.specs.BigEndian.{numberOf}
 use Rattle.event.proofs.Numbers.{number-below, power-positive}
 use Rattle.printout.specs.Print.{decimal}
 use Rattle.number_text.proofs.Decimal.{decimal-five, decimal-four, decimal-three, decimal-two, twoDigits}
-use Rattle.line_number.specs.Numbered.{InBytes, InDigits, Keeps, wordBytes}
+use Rattle.line_number.specs.Numbered.{InBytes, InDigits, Keeps, numberIn, wordBytes}
 use Rattle.line_number.specs.declared.LineNumber.{LineNumber}
 use Rattle.line_number.proofs.Digits.{are-bytes, length-next, number-is, number-next, tens}
 
@@ -45,7 +45,7 @@ digits-fit {n} {digits} {width} {blank} i =
     }
 
 pub digits-kept : {n digits width blank left : ℕ} → InDigits n digits width blank → left ≡ 10 - n % 10
-    → Keeps n (record { number = n; word = (digits * 256 + 32) * blank; width = width; unit = blank * 256; left = left })
+    → Keeps n (record { ten = n + left; word = (digits * 256 + 32) * blank; width = width; unit = blank * 256; left = left })
 digits-kept {n} {digits} {width} {blank} {left} i e =
     let more : 9 - width ≡ suc (8 - width) = omega (arith, i .most) in
     record {
@@ -62,37 +62,42 @@ digits-kept {n} {digits} {width} {blank} {left} i e =
 
 -- ---- the number after, where that differs in the last digit alone
 abbrev pub countedUp : LineNumber → LineNumber
-countedUp own = record { number = own .number + 1; word = own .word + own .unit; width = own .width; unit = own .unit; left = own .left - 1 }
+countedUp own = record { ten = own .ten; word = own .word + own .unit; width = own .width; unit = own .unit; left = own .left - 1 }
 
-next-bytes : (own : LineNumber) → own .number + 1 < 18446744073709551616 → (own .number + 1) / 10 ≡ own .number / 10 → InBytes (own .number) own
-    → InBytes (own .number + 1) (countedUp own)
-next-bytes own few same b =
-    let some : 10 ≤ own .number = tens (own .number) (omega (arith, b .width, b .least)) in
+next-bytes : (n : ℕ) (own : LineNumber) → n + 1 < 18446744073709551616 → (n + 1) / 10 ≡ n / 10 → InBytes n own → InBytes (n + 1) (countedUp own)
+next-bytes n own few same b =
+    let some : 10 ≤ n = tens n (omega (arith, b .width, b .least)) in
     let rest : List ℕ = 32 ∷ replicate (8 - own .width) 0 in
     let long : length rest ≡ 9 - own .width = simp length-replicate (omega (arith, b .most)) in
     record {
-      width = b .width ∙ ap (λ (k : ℕ). k + 1) (sym (length-next (own .number) some few same));
+      width = b .width ∙ ap (λ (k : ℕ). k + 1) (sym (length-next n some few same));
       least = b .least;
       most = b .most;
-      word = rw (b .word, b .unit, ← long) (sym (number-next (own .number) some few same rest));
+      word = rw (b .word, b .unit, ← long) (sym (number-next n some few same rest));
       unit = b .unit;
     }
 
-pub keeps-next : (own : LineNumber) → Keeps (own .number) own → own .number + 1 < 18446744073709551616 → (own .left ≡ 1 → ⊥)
-    → Keeps (own .number + 1) (countedUp own)
-keeps-next own k few more =
-    let same : (own .number + 1) / 10 ≡ own .number / 10 = omega (arith, k .left) in
+pub keeps-next : {n : ℕ} {own : LineNumber} → Keeps n own → n + 1 < 18446744073709551616 → (own .left ≡ 1 → ⊥) → Keeps (n + 1) (countedUp own)
+keeps-next {n} {own} k few more =
+    let same : (n + 1) / 10 ≡ n / 10 = omega (arith, k .left) in
     record {
-      number = refl;
+      number = omega (arith, k .number, k .left);
       left = omega (arith, k .left);
       bytes =
           ⊎-elim (λ b. inl (record { word = omega (arith, b .word, b .unit); width = b .width; unit = b .unit }))
-          (λ b. inr (next-bytes own few same b)) (k .bytes);
+          (λ b. inr (next-bytes n own few same b)) (k .bytes);
     }
 
+-- and where it differs in others too, it is the one at which the bytes are made anew
+pub ten-next : {n : ℕ} {own : LineNumber} → Keeps n own → own .left ≡ 1 → own .ten ≡ n + 1
+ten-next k e = omega (arith, k .number)
+
 -- for a caller that knows the number: what the functions require
-pub keeps-own : {n : ℕ} {own : LineNumber} → Keeps n own → Keeps (own .number) own
-keeps-own {n} {own} k = subst (λ (m : ℕ). Keeps m own) (sym (k .number)) k
+pub keeps-number : {n : ℕ} {own : LineNumber} → Keeps n own → numberIn own ≡ n
+keeps-number k = omega (arith, k .number)
+
+pub keeps-own : {n : ℕ} {own : LineNumber} → Keeps n own → Keeps (numberIn own) own
+keeps-own {n} {own} k = subst (λ (m : ℕ). Keeps m own) (sym (keeps-number k)) k
 
 -- ---- the digits of numbers of two to five, as the code computes them
 pub two-digits : (n p : ℕ) → 10 ≤ n → n < 100 → p ≡ numberOf (twoDigits n) → InDigits n p 3 1099511627776

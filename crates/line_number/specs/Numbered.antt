@@ -35,9 +35,13 @@ pub record InBytes (n : ℕ) (own : LineNumber) : Type 0 where
   pub word : own .word ≡ numberOf (wordBytes n (own .width))
   pub unit : own .unit ≡ 256 ^ (9 - own .width)
 
+-- the number, by the next one whose last digit is 0
+abbrev pub numberIn : LineNumber → ℕ
+numberIn own = own .ten - own .left
+
 -- the number, its bytes or none, and how many numbers, from it on, have the same digits but the last
 pub record Keeps (n : ℕ) (own : LineNumber) : Type 0 where
-  pub number : own .number ≡ n
+  pub number : own .ten ≡ n + own .left
   pub left : own .left ≡ 10 - n % 10
   pub bytes : NoBytes own ⊎ InBytes n own
 
