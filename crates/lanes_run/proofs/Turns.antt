@@ -1,11 +1,11 @@
 -- A turn of a run by a call of a lane: it is one event of the run.
 use Prim.Native.Nat.{ℕ, _+_, _≤_, _<_}
-use mathlib.Core.Path.{_≡_, refl, sym, ap, _∙_, subst}
+use mathlib.Core.Path.{_≡_, refl, sym, ap, ap₂, _∙_, subst}
 use mathlib.Core.Bool.{true, false, false≢true}
 use mathlib.Core.List.{List, [], _∷_}
 use native.Mathlib.Omega.{arith}
 use lib.Dec.{eqb}
-use lib.ListN.{drop, getD, length}
+use lib.ListN.{drop, getD, length, set}
 use borrow.Author.Tests.{eqb-false, eqb-true}
 use Rattle.limits.specs.Limits.{mostLanes}
 use Rattle.lists.proofs.Tests.{by-test}
@@ -34,23 +34,24 @@ use Rattle.steps.specs.declared.Answer.{Answer}
 use Rattle.changes.specs.Change.{countsAfter, entryOf, missingLane, seenOf}
 use Rattle.changes.specs.declared.Change.{Change}
 use Rattle.changes.specs.declared.Seen.{Seen}
-use Rattle.changes.proofs.Steps.{lane-below}
+use Rattle.changes.proofs.Steps.{entry-is, lane-below}
 use Rattle.scopes.specs.Scope.{laneEvent}
 use Rattle.call_head.specs.Head.{Headed, restOf}
 use Rattle.call_head.specs.declared.Head.{Head}
 use Rattle.call_head.proofs.Heads.{fields-there, headed-read}
 use Rattle.call_head.proofs.LaneKinds.{enter-of}
-use Rattle.ordered_calls.specs.Settled.{enterOf}
+use Rattle.ordered_calls.specs.Settled.{IdlePast, enterOf}
 use Rattle.ordered_calls.specs.declared.Entered.{Entered}
-use Rattle.ordered_calls.proofs.Steps.{enter-refused}
+use Rattle.ordered_calls.proofs.Steps.{enter-refused, index-in, past-idle}
 use Rattle.number_text.proofs.Decimal.{few-digits}
-use Rattle.line_number.specs.Numbered.{Keeps, Numbered}
+use Rattle.line_number.specs.Numbered.{Keeps, Numbered, numberIn}
 use Rattle.line_number.specs.declared.LineNumber.{LineNumber}
-use Rattle.line_number.proofs.Bytes.{keeps-own}
+use Rattle.line_number.proofs.Bytes.{keeps-number, keeps-own}
 use Rattle.line_number.proofs.Answers.{answer-line}
 use Rattle.kind_text.specs.Put.{Put}
 use Rattle.sheet_calls.specs.Calls.{Ran, RanCall, RanEnter, RanEntered, enterChange, enteredWith, isComplete, isRefusal}
 use Rattle.sheet_calls.specs.declared.Called.{Called}
+use Rattle.sheet_calls.specs.declared.Caller.{Caller}
 use Rattle.lanes_run.specs.Parts.{Going, lineNow}
 use Rattle.lanes_run.proofs.Going.{good-state, goes-on}
 use Rattle.lanes_run.proofs.Stores.{none-called, none-counts, refused-called, stored-shaped, storedLine, woken-called, woken-counts, woken-shaped}
@@ -69,10 +70,41 @@ started-length k (x ∷ xs) = rw (started-length _ xs)
 started-shaped : (l : Line) (k : ℕ) → Shaped l → Shaped (withLanes l (started k (l .lane)))
 started-shaped l k s = record { lanes-length = started-length k (l .lane) ∙ s .lanes-length; flags-length = s .flags-length; blocks-length = s .blocks-length }
 
-module _ (sheet : List ℕ) (x₀ : State) (out₀ : List ℕ) (from so-far first : ℕ) (l : Line) (book out : List ℕ) (at len number : ℕ) (G : Going sheet x₀ out₀ from so-far first l book out at len number)
-    (small : number < 18446744073709551616) (h : Head) (H : Headed sheet at h) (s : Seen) (sees : s ≡ seenOf l (entryOf (h .lane))) (counts : LaneCounts) (same : counts ≡ countsOf (l .lane))
-    (mid : List ℕ) (start : ℕ) (put : Numbered number out len mid start) (r : Called) (book′ out′ : List ℕ)
-    (R : RanCall h sheet s counts (tilingOf (l .view)) (recordsOf (l .view)) (l .flag) book mid start r book′ out′) (same-book : length book′ ≡ length book) (same-out : length out′ ≡ length out) where
+-- a turn by a call of a lane: where the run stands, the call's head, what it sees, its number stored, and what it gives
+pub record Turn (sheet : List ℕ) (x₀ : State) (out₀ : List ℕ) (from so-far first : ℕ) (l : Line) (book out : List ℕ) (at len number : ℕ)
+    (h : Head) (s : Seen) (counts : LaneCounts) (r : Called) (book′ out′ : List ℕ) : Type 0 where
+  pub going : Going sheet x₀ out₀ from so-far first l book out at len number
+  pub small : number < 18446744073709551616
+  pub headed : Headed sheet at h
+  pub sees : s ≡ seenOf l (entryOf (h .lane))
+  pub same : counts ≡ countsOf (l .lane)
+  pub mid : List ℕ
+  pub start : ℕ
+  pub put : Numbered number out len mid start
+  pub ran : RanCall h sheet s counts (tilingOf (l .view)) (recordsOf (l .view)) (l .flag) book mid start r book′ out′
+  pub same-book : length book′ ≡ length book
+  pub same-out : length out′ ≡ length out
+
+module _ {sheet : List ℕ} {x₀ : State} {out₀ : List ℕ} {from so-far first : ℕ} {l : Line} {book out : List ℕ} {at len number : ℕ} {h : Head} {s : Seen} {counts : LaneCounts} {r : Called} {book′ out′ : List ℕ}
+    (T : Turn sheet x₀ out₀ from so-far first l book out at len number h s counts r book′ out′) where
+  G : Going sheet x₀ out₀ from so-far first l book out at len number
+  G = T .going
+
+  H : Headed sheet at h
+  H = T .headed
+
+  sees : s ≡ seenOf l (entryOf (h .lane))
+  sees = T .sees
+
+  same : counts ≡ countsOf (l .lane)
+  same = T .same
+
+  abbrev mid : List ℕ
+  mid = T .mid
+
+  abbrev start : ℕ
+  start = T .start
+
   abbrev After : Line → Type 0
   After line′ = Going sheet x₀ out₀ from so-far first line′ book′ out′ (r .next) (r .end) (number + 1)
 
@@ -81,12 +113,12 @@ module _ (sheet : List ℕ) (x₀ : State) (out₀ : List ℕ) (from so-far firs
       → callEvent (stateOf l book) e ≡ leaves (r .change .answer) line′ book′ → After line′
   on e read P line′ shaped called =
       goes-on sheet x₀ out₀ from so-far first l book out at len number G e (record { at = r .next }) read (r .change .answer) line′ book′ called shaped
-      out′ (r .end) (answer-line (r .change .answer) put (P .text)) (omega (arith, P .short, put .ends, few-digits 19 number (omega (arith, small)))) same-book same-out (r .next) refl
+      out′ (r .end) (answer-line (r .change .answer) (T .put) (P .text)) (omega (arith, P .short, T .put .ends, few-digits 19 number (omega (arith, T .small)))) (T .same-book) (T .same-out) (r .next) refl
 
   -- ---- 02 to 09
   module _ (apart : h .kind ≡ 10 → ⊥) where
     lane-ran : Ran (h .kind) sheet (h .to) s counts (h .lane) (tilingOf (l .view)) (recordsOf (l .view)) (l .flag) book mid start r book′ out′
-    lane-ran = R .lane-call apart
+    lane-ran = T .ran .lane-call apart
 
     lane-read : readAt sheet at ≡ Reading.Event (laneEvent (h .lane) (lane-ran .call)) (record { at = r .next })
     lane-read = headed-read H (lane-ran .fields) ∙ rw (lane-ran .event)
@@ -126,7 +158,7 @@ module _ (sheet : List ℕ) (x₀ : State) (out₀ : List ℕ) (from so-far firs
   -- ---- 0A
   module _ (ten : h .kind ≡ 10) where
     entered-ran : RanEntered h sheet s counts (tilingOf (l .view)) (recordsOf (l .view)) book mid start r book′ out′
-    entered-ran = R .enter-call ten
+    entered-ran = T .ran .enter-call ten
 
     lanes-same : s .lanes ≡ l .lanes
     lanes-same = ap (λ (v : Seen). v .lanes) sees
@@ -140,8 +172,10 @@ module _ (sheet : List ℕ) (x₀ : State) (out₀ : List ℕ) (from so-far firs
         let past : h .to + total (restOf (h .kind)) ≡ r .next = rw ten (sym (refused .past)) in
         let is : eventOf (h .kind) (h .lane ∷ rest) ≡ Event.Enter (h .lane) (getD rest 0 0) = ap (λ (k : ℕ). eventOf k (h .lane ∷ rest)) ten ∙ enter-of (h .lane) rest in
         on (Event.Enter (h .lane) (getD rest 0 0)) (headed-read H (fields-there (restOf (h .kind)) sheet (h .to) (H .room) ∙ ap (values rest) past) ∙ rw is)
-        (rw answer (refused .put)) l (G .shaped)
-        (rw (answer, entered-ran .kept, lanes-same) (enter-missing l book (G .is-sound) (h .lane) (getD rest 0 0) (λ z. some (rw lanes-same z))))
+        (subst (λ (a : Answer). Put a mid start out′ (r .end)) (sym answer) (refused .put)) l (G .shaped)
+        (enter-missing l book (G .is-sound) (h .lane) (getD rest 0 0) (λ z. some (ap (λ (n : ℕ). missingLane n (h .lane)) lanes-same ∙ z))
+        ∙ ap (λ (n : ℕ). leaves (Answer.Refused (missingLane n (h .lane))) l book) (sym lanes-same)
+        ∙ ap₂ (λ (a : Answer) (b : List ℕ). leaves a l b) (sym answer) (sym (entered-ran .kept)))
 
     -- past them
     module _ (none : missingLane (s .lanes) (h .lane) ≡ 0) where
@@ -233,11 +267,18 @@ module _ (sheet : List ℕ) (x₀ : State) (out₀ : List ℕ) (from so-far firs
         by-ten (λ apart. lane-none-counts apart i own none told)
         (λ ten. let there = not-missing ten told in enter-gathered-counts ten there i own (gathered-is ten there (comes ten there) refl told waits))
 
-    -- an ordered call that is complete
-    pub started-on : r .starts ≡ true → After (withLanes (storedLine l i (r .change)) (started (s .pointer .0) (storedLine l i (r .change) .lane)))
-    started-on begins =
+    -- an ordered call that is complete: the lanes past N are idle
+    pub started-past : r .starts ≡ true → (y : Lane) → IdlePast (l .lanes) (set (l .lane) i y)
+    started-past begins y =
         by-ten (λ apart. absurd (false≢true (sym (lane-ran apart .starts) ∙ begins)))
-        (λ ten. let there = not-missing ten told in enter-complete-on ten there i own (complete-is ten there (comes ten there) refl begins))
+        (λ ten. let below′ = below ten (not-missing ten told) in
+        subst (λ (j : ℕ). IdlePast (l .lanes) (set (l .lane) j y)) (entry-is (h .lane) (index-in l book (G .shaped) (G .is-sound) (h .lane) below′) ∙ sym own) (past-idle l book (G .shaped) (G .is-sound) (h .lane) below′ y))
+
+    pub started-on : r .starts ≡ true → After (withLanes (storedLine l i (r .change)) (started (l .pointer .0) (storedLine l i (r .change) .lane)))
+    started-on begins =
+        subst (λ (p : Place). After (withLanes (storedLine l i (r .change)) (started (p .0) (storedLine l i (r .change) .lane)))) (ap (λ (v : Seen). v .pointer) sees)
+        (by-ten (λ apart. absurd (false≢true (sym (lane-ran apart .starts) ∙ begins)))
+        (λ ten. let there = not-missing ten told in enter-complete-on ten there i own (complete-is ten there (comes ten there) refl begins)))
 
     -- a change that wakes a lane
     module _ (w v : ℕ) (y : Phase) (wakes : r .change .wakes ≡ Wakes.Lane w) (entry : v ≡ entryOf w) (phase : y ≡ woken (r .change .pointer) (phaseAt (storedLine l i (r .change)) v)) where
@@ -268,13 +309,14 @@ module _ (sheet : List ℕ) (x₀ : State) (out₀ : List ℕ) (from so-far firs
   moves = (further, omega (arith, got (H .fields) .past, H .room))
 
 -- ---- names of the run's variables for what a turn leaves
-pub ran-as : {h : Head} {sheet : List ℕ} {s : Seen} {counts : LaneCounts} {t : Tiling} (v : View) {records flags book out : List ℕ} {at : ℕ} {r : Called} {book′ out′ : List ℕ} → t ≡ tilingOf v → records ≡ recordsOf v
-    → RanCall h sheet s counts t records flags book out at r book′ out′ → RanCall h sheet s counts (tilingOf v) (recordsOf v) flags book out at r book′ out′
-ran-as v tiles table R = rw (← tiles, ← table) R
+pub ran-as : {h : Head} {sheet : List ℕ} {c : Caller} {counts : LaneCounts} {t : Tiling} (v : View) {records flags book out : List ℕ} {at : ℕ} {r : Called} {book′ out′ : List ℕ}
+    → c .head ≡ h → c .counts ≡ counts → t ≡ tilingOf v → records ≡ recordsOf v
+    → RanCall (c .head) sheet (c .seen) (c .counts) t records flags book out at r book′ out′ → RanCall h sheet (c .seen) counts (tilingOf v) (recordsOf v) flags book out at r book′ out′
+ran-as v head counted tiles table R = rw (← head, ← counted, ← tiles, ← table) R
 
 pub turned : {sheet : List ℕ} {x₀ : State} {out₀ : List ℕ} {from so-far first : ℕ} (line : Line) {book out flags book′ out′ flags′ : List ℕ} {size at len size′ at′ len′ n : ℕ} {pointer pointer′ : Place}
     {lanes lanes′ : List Lane} {counts counts′ : LaneCounts} {number : LineNumber}
     → book ≡ book′ → out ≡ out′ → size ≡ size′ → pointer ≡ pointer′ → lanes ≡ lanes′ → flags ≡ flags′ → counts ≡ counts′ → at ≡ at′ → len ≡ len′
     → Going sheet x₀ out₀ from so-far first (lineNow line size′ pointer′ lanes′ flags′) book′ out′ at′ len′ n → counts′ ≡ countsOf lanes′ → Keeps n number
-    → (Going sheet x₀ out₀ from so-far first (lineNow line size pointer lanes flags) book out at len (number .number)) × (counts ≡ countsOf lanes) × Keeps (number .number) number
-turned line a b c d e f g i j going counted keeps = (rw (a, b, c, d, e, f, i, j, keeps .number) going, g ∙ counted ∙ ap countsOf (sym e), keeps-own keeps)
+    → (Going sheet x₀ out₀ from so-far first (lineNow line size pointer lanes flags) book out at len (numberIn number)) × (counts ≡ countsOf lanes) × Keeps (numberIn number) number
+turned line a b c d e f g i j going counted keeps = (rw (a, b, c, d, e, f, i, j, keeps-number keeps) going, g ∙ counted ∙ ap countsOf (sym e), keeps-own keeps)

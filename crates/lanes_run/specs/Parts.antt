@@ -6,8 +6,6 @@ use mathlib.Core.Path.{_≡_}
 use lib.Dec.{eqb}
 use lib.ListN.{length}
 use Rattle.view.specs.declared.Place.{Place}
-use Rattle.tiling.specs.Tiling.{recordsOf, tilingOf}
-use Rattle.tiling.specs.declared.Tiling.{Tiling}
 use Rattle.line.specs.Line.{Shaped}
 use Rattle.line.specs.Sound.{sound}
 use Rattle.line.specs.declared.Lane.{Lane}
@@ -19,14 +17,15 @@ use Rattle.event.specs.declared.Event.{Event}
 use Rattle.event.specs.declared.Reading.{Reading}
 use Rattle.steps.specs.Meets.{stateOf}
 use Rattle.steps.specs.State.{State}
-use Rattle.steps.specs.declared.Answer.{Answer}
 use Rattle.changes.specs.declared.Seen.{Seen}
 use Rattle.scopes.specs.Scope.{scopeOf}
 use Rattle.scopes.specs.declared.LineCall.{LineCall}
 use Rattle.scopes.specs.declared.Scope.{Scope}
 use Rattle.line_calls.specs.Refusal.{lineRefusal}
 use Rattle.call_head.specs.Head.{NoLane}
-use Rattle.printout.specs.Print.{answerLine, answerLines, endLine}
+use Rattle.call_head.specs.declared.Head.{Head}
+use Rattle.sheet_calls.specs.declared.Caller.{Caller}
+use Rattle.printout.specs.Print.{answerLines, endLine}
 use Rattle.printout.specs.Run.{Ran, runOn}
 use Rattle.number_text.specs.Stored.{Stored}
 use Rattle.answer_text.specs.Printing.{mostLine}
@@ -42,6 +41,10 @@ lineNow l size pointer lanes flags =
 abbrev pub seenNow : ℕ → ℕ → ℕ → Place → LaneCounts → Lane → ℕ → Seen
 seenNow lanes capacity size pointer counts own flag =
     record { lanes = lanes; capacity = capacity; size = size; pointer = pointer; gathering = not (eqb (counts .gathered) 0); phase = own .phase; flag = flag }
+
+-- a call of a lane in it
+abbrev pub callerNow : Head → Line → ℕ → Place → LaneCounts → Lane → ℕ → Caller
+callerNow h l size pointer counts own flag = record { head = h; seen = seenNow (l .lanes) (l .capacity) size pointer counts own flag; counts = counts }
 
 -- ---- a part of a run
 -- the text of the answers, numbered from k on, and of what a run leaves
@@ -63,12 +66,10 @@ pub record Going (sheet : List ℕ) (x₀ : State) (out₀ : List ℕ) (from so-
   pub book-length : length book ≡ length (x₀ .book)
   pub out-length : length out ≡ length out₀
 
--- what a part needs where it begins: a sound line, its view's table, an index of the sheet, and room for the text
-pub record Begun (s : Standing) (t : Tiling) (records book sheet out : List ℕ) : Type 0 where
+-- what a part needs where it begins: a sound line, an index of the sheet, and room for the text
+pub record Begun (s : Standing) (book sheet out : List ℕ) : Type 0 where
   pub shaped : Shaped (s .line)
   pub is-sound : sound (s .line) (length book) ≡ true
-  pub tiles : t ≡ tilingOf (s .line .view)
-  pub table : records ≡ recordsOf (s .line .view)
   pub inside : s .at ≤ length sheet
   pub numbered : s .number ≤ s .at
   pub short : s .length ≤ mostLine * s .at
@@ -80,20 +81,17 @@ pub record Went (s : Standing) (book sheet out : List ℕ) (r : Standing) (book-
   pub stops : NoLane sheet (r .at)
 
 -- ---- a call on the whole line that is refused
-abbrev pub refusalNow : LineCall → Line → LaneCounts → ℕ → ℕ
-refusalNow call l counts buffer = lineRefusal call (l .lanes) (l .capacity) (l .size) (l .pointer) (l .view) (eqb (counts .active) 0) buffer
+abbrev pub refusalNow : LineCall → Line → ℕ → Place → LaneCounts → ℕ → ℕ
+refusalNow call l size pointer counts buffer = lineRefusal call (l .lanes) (l .capacity) size pointer (l .view) (eqb (counts .active) 0) buffer
 
-pub record LineRefusal (l : Line) (counts : LaneCounts) (buffer : ℕ) (sheet : List ℕ) (at : ℕ) (out : List ℕ) (len number : ℕ) (r : LineRefused) (out-left : List ℕ) : Type 0 where
+pub record LineRefusal (l : Line) (size : ℕ) (pointer : Place) (counts : LaneCounts) (buffer : ℕ) (sheet : List ℕ) (at : ℕ) (r : LineRefused) : Type 0 where
   pub event : Event
   pub next : Cursor
   pub call : LineCall
   pub read : readAt sheet at ≡ Reading.Event event next
   pub scope : scopeOf event ≡ Scope.Line call
-  pub some : refusalNow call l counts buffer ≡ 0 → ⊥
+  pub number : r .number ≡ refusalNow call l size pointer counts buffer
   pub past : r .at ≡ next .at
-  pub text : Stored (answerLine number (Answer.Refused (refusalNow call l counts buffer))) out len out-left (r .length)
-  pub short : r .length ≤ len + mostLine
 
-pub record RefusedLine (l : Line) (counts : LaneCounts) (buffer : ℕ) (sheet : List ℕ) (at : ℕ) (out : List ℕ) (len number : ℕ) (r : LineRefused) (out-left : List ℕ) : Type 0 where
-  pub yes : r .refused ≡ true → LineRefusal l counts buffer sheet at out len number r out-left
-  pub no : r .refused ≡ false → out-left ≡ out
+abbrev pub RefusedLine : Line → ℕ → Place → LaneCounts → ℕ → List ℕ → ℕ → LineRefused → Type 0
+RefusedLine l size pointer counts buffer sheet at r = (r .number ≡ 0 → ⊥) → LineRefusal l size pointer counts buffer sheet at r

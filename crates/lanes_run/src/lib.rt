@@ -1,13 +1,16 @@
 // The calls of lanes of a sheet, one after the other, and the refused ones on the whole line: the part of a run that leaves lanes, capacity and view as they are.
 ghost use Prim.Native.Nat.{_+_, _≤_};
-ghost use mathlib.Core.Bool.{false};
 ghost use mathlib.Core.Path.{_≡_};
 ghost use lib.ListN.{length};
 ghost use Rattle.line.specs.Line.{lane};
 ghost use Rattle.steps.specs.Effects.{woken};
+ghost use Rattle.steps.specs.declared.Answer.{Answer};
+ghost use Rattle.printout.specs.Print.{answerLine};
+ghost use Rattle.number_text.specs.Stored.{Stored};
 ghost use Rattle.answer_text.specs.Printing.{mostLine};
-ghost use Rattle.lanes_run.specs.Parts.{Begun, RefusedLine, Went, lineNow, seenNow};
+ghost use Rattle.lanes_run.specs.Parts.{Begun, RefusedLine, Went, callerNow, lineNow};
 use answer_text::put_answer;
+use call_head::Head;
 use call_head::head_at;
 use changes::Seen;
 use changes::entry_of;
@@ -20,16 +23,18 @@ use line::Lane;
 use line::Line;
 use line_calls::refusal_of;
 use line_number::next_number;
+use line_number::number_of;
 use line_number::plain_number;
 use line_number::put_line_number;
 use ordered_calls::start_all;
 use reader::event_at;
 use scopes::Scope;
 use scopes::scope_of;
+use sheet_calls::Caller;
 use sheet_calls::call_lane;
 use steps::Answer;
-use tiling::MOST_RECORDS;
 use tiling::Tiling;
+use tiling::records_of;
 use view::Place;
 use waitlist::Wakes;
 
@@ -41,11 +46,10 @@ pub struct Standing {
     pub number: u64,
 }
 
-// A refused call on the whole line: the index of the next event and the length of the text after it.
+// What refuses a call on the whole line, 0 for nothing, and the index of the next event.
 pub struct LineRefused {
-    pub refused: bool,
+    pub number: u8,
     pub at: usize,
-    pub length: usize,
 }
 
 // A waiting lane, woken with the pointer.
@@ -70,86 +74,83 @@ pub fn stand_at(line: Line, at: usize, length: usize, number: u64) -> Standing
     }
 }
 
-// What a call of a lane sees, from the line's numbers, the counts and the lane's own entries.
-fn see_own(
-    lanes: u8,
-    capacity: u32,
+// A call of a lane, with what it sees of the line's numbers, the counts and the lane's own entries.
+fn caller_of(
+    head: Head,
+    line: Line,
     size: u32,
     pointer: Place,
     counts: LaneCounts,
     own: Lane,
     flag: u8,
-) -> Seen
-    ensures { λ r. ⌜ r ≡ seenNow lanes capacity size pointer counts own flag ⌝ }
+) -> Caller
+    ensures { λ r. ⌜ r ≡ callerNow head line size pointer counts own flag ⌝ }
 {
     let phase = own.phase;
-    Seen {
-        lanes,
-        capacity,
+    let seen = Seen {
+        lanes: line.lanes,
+        capacity: line.capacity,
         size,
         pointer,
         gathering: counts.gathered != 0,
         phase,
         flag,
-    }
+    };
+    Caller { head, seen, counts }
 }
 
-// No call was refused.
-fn none_refused(at: usize, length: usize) -> LineRefused
-    ensures { λ r. ⌜ r .refused ≡ false ⌝ }
+// Nothing refuses what stands at an index.
+fn none_refused(at: usize) -> LineRefused
+    ensures { λ r. ⌜ r .number ≡ 0 ⌝ }
 {
-    LineRefused {
-        refused: false,
-        at,
-        length,
-    }
+    LineRefused { number: 0, at }
 }
 
-// The event at an index, if it is a call on the whole line that is refused: its line is stored.
+// What refuses the event at an index, where it is a call on the whole line; no line is copied for it.
 fn refuse_line(
     line: Line,
+    size: u32,
+    pointer: Place,
     counts: LaneCounts,
     buffer: usize,
     sheet: &[u8],
     at: usize,
-    out: &mut [u8],
-    end: usize,
-    number: u64,
 ) -> LineRefused
-    requires { ⌜ end + mostLine ≤ length (now out) ⌝ }
-    ensures { λ r. ⌜ RefusedLine line counts buffer (now (sheet .entry)) at (now (out .entry)) end number r (now (out .exit)) ⌝ }
+    ensures { λ r. ⌜ RefusedLine line size pointer counts buffer (now (sheet .entry)) at r ⌝ }
 {
     let step = event_at(sheet, at);
     let reading = step.reading;
     let Reading::Event { event, next: _ } = reading else {
-        return none_refused(at, end);
+        return none_refused(at);
     };
     let scope = scope_of(event);
     let Scope::Line { call } = scope else {
-        return none_refused(at, end);
+        return none_refused(at);
     };
-    let pointer = line.pointer;
     let view = line.view;
     let idle = counts.active == 0;
-    let refusal = refusal_of(
+    let number = refusal_of(
         call,
         line.lanes,
         line.capacity,
-        line.size,
+        size,
         pointer,
         view,
         idle,
         buffer,
     );
-    if refusal == 0 {
-        return none_refused(at, end);
-    }
-    let after = put_answer(out, end, number, Answer::Refused { number: refusal });
     LineRefused {
-        refused: true,
+        number,
         at: step.at,
-        length: after,
     }
+}
+
+// The line of a refusal.
+fn put_refusal(out: &mut [u8], at: usize, number: u64, refusal: u8) -> usize
+    requires { ⌜ at + mostLine ≤ length (now out) ⌝ }
+    ensures { λ r. ⌜ Stored (answerLine number (Answer.Refused refusal)) (now (out .entry)) at (now (out .exit)) r × (r ≤ at + mostLine) ⌝ }
+{
+    put_answer(out, at, number, Answer::Refused { number: refusal })
 }
 
 // A line with these numbers, lanes and flags in place of its own.
@@ -170,19 +171,16 @@ fn line_with(
     next
 }
 
-// The calls of lanes, and the refused ones on the whole line, as far as there are such. What they change of the line stays in locals.
-pub fn run_lanes(
-    from: Standing,
-    tiling: Tiling,
-    records: &[u16; MOST_RECORDS],
-    book: &mut [u8],
-    sheet: &[u8],
-    out: &mut [u8],
-) -> Standing
-    requires { ⌜ Begun from tiling (now records) (now book) (now sheet) (now out) ⌝ }
+// The calls of lanes, and the refused ones on the whole line, as far as there are such. What they change of the line stays in locals, and the view's records in a
+// table, which is made here: the view stays as it is.
+pub fn run_lanes(from: Standing, book: &mut [u8], sheet: &[u8], out: &mut [u8]) -> Standing
+    requires { ⌜ Begun from (now book) (now sheet) (now out) ⌝ }
     ensures { λ r. ⌜ Went from (now (book .entry)) (now (sheet .entry)) (now (out .entry)) r (now (book .exit)) (now (out .exit)) ⌝ }
 {
     let line = from.line;
+    let view = line.view;
+    let tiling = Tiling::of(view);
+    let records = records_of(view);
     let mut size = line.size;
     let mut pointer = line.pointer;
     let mut lane = line.lane;
@@ -196,31 +194,13 @@ pub fn run_lanes(
         if head.whole {
             let i = entry_of(head.lane);
             let own = lane[i];
-            let seen = see_own(
-                line.lanes,
-                line.capacity,
-                size,
-                pointer,
-                counts,
-                own,
-                flag[i],
-            );
+            let caller = caller_of(head, line, size, pointer, counts, own, flag[i]);
             let to = put_line_number(out, length, number);
-            let called = call_lane(
-                head,
-                seen,
-                counts,
-                tiling,
-                records,
-                &flag,
-                book,
-                sheet,
-                out,
-                to,
-            );
+            let called = call_lane(caller, tiling, &records, &flag, book, sheet, out, to);
             at = called.next;
             length = called.end;
             if !called.refused {
+                let before = pointer;
                 let change = called.change;
                 let changed = change.phase;
                 counts = called.counts;
@@ -234,28 +214,18 @@ pub fn run_lanes(
                     let waiting = lane[w];
                     lane[w] = wake_lane(waiting, pointer);
                 } else if called.starts {
-                    let before = seen.pointer;
-                    lane = start_all(lane, before.0);
+                    lane = start_all(lane, line.lanes, before.0);
                     counts = counts_of(lane);
                 }
             }
         } else {
-            let now = line_with(line, size, pointer, lane, flag);
-            let refused = refuse_line(
-                now,
-                counts,
-                book.len(),
-                sheet,
-                at,
-                out,
-                length,
-                number.number,
-            );
-            if !refused.refused {
-                return stand_at(now, at, length, number.number);
+            let refused = refuse_line(line, size, pointer, counts, book.len(), sheet, at);
+            if refused.number == 0 {
+                let now = line_with(line, size, pointer, lane, flag);
+                return stand_at(now, at, length, number_of(number));
             }
             at = refused.at;
-            length = refused.length;
+            length = put_refusal(out, length, number_of(number), refused.number);
         }
         number = next_number(number);
     }

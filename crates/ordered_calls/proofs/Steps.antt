@@ -4,17 +4,20 @@ use mathlib.Core.Path.{_≡_, refl, sym, ap, _∙_}
 use mathlib.Core.Bool.{Bool, true, false, cond, not}
 use mathlib.Core.List.{List}
 use native.Mathlib.Omega.{arith}
-use lib.ListN.{length}
+use lib.ListN.{drop, getD, length, set}
+use lib.Seq.{drop-set-lt, getD-drop}
 use lib.Dec.{eqb}
 use Rattle.lists.specs.Lists.{allPass, bit, countPass}
+use Rattle.lists.proofs.Counts.{all-from}
 use Rattle.lists.proofs.Tests.{by-test, clash, not-zero}
 use borrow.Author.Tests.{eqb-true}
 use Rattle.view.specs.View.{fits}
 use Rattle.view.proofs.Laws.{fits-low}
 use Rattle.limits.specs.Limits.{mostLanes, mostPointer}
+use Rattle.line.specs.declared.Lane.{Lane}
 use Rattle.line.specs.declared.Line.{Line}
 use Rattle.line.specs.declared.Phase.{Phase}
-use Rattle.line.specs.Line.{Shaped, countIn, isGathered, isIdle, isIdleOrGathered, on, phaseAt}
+use Rattle.line.specs.Line.{Shaped, countIn, idleLane, isGathered, isIdle, isIdleOrGathered, on, phaseAt}
 use Rattle.line.specs.Sound.{gatheredTotal, sound}
 use Rattle.line.proofs.Phases.{idle-is}
 use Rattle.line.proofs.Facts.{OpenNumbers, good-of, when-open}
@@ -30,7 +33,7 @@ use Rattle.steps.specs.declared.Answer.{Answer}
 use Rattle.steps.proofs.Chains.{enter-chain}
 use Rattle.refuse.proofs.First.{at-lane}
 use Rattle.ordered_calls.specs.declared.Entered.{Entered}
-use Rattle.ordered_calls.specs.Settled.{isAccepted, admitted, completed, enterOf, settled, totalWith, withBook}
+use Rattle.ordered_calls.specs.Settled.{IdlePast, isAccepted, admitted, completed, enterOf, settled, totalWith, withBook}
 
 fitting-passed : (fitting last : Bool) → isAccepted (cond (not fitting) (Entered.Refused 16) (cond last Entered.Complete Entered.Gathered)) ≡ true → fitting ≡ true
 fitting-passed true last e = refl
@@ -59,6 +62,17 @@ module _ (l : Line) (book : List ℕ) (shape : Shaped l) (ok : sound l (length b
 
   pub index-within : i < length (l .lane)
   index-within = omega (arith, open-line .lanes-fit, shape .lanes-length)
+
+  -- past N all lanes are idle, also once this one has another phase
+  past-at : (j : ℕ) → j < length (drop (l .lanes) (l .lane)) → isIdle (getD (drop (l .lanes) (l .lane)) j idleLane .phase) ≡ true
+  past-at j k = rw (getD-drop (l .lanes) (l .lane) j idleLane, good-of l (length book) shape ok .facts .base .past (l .lanes + j) (omega arith))
+
+  pub past-idle : (y : Lane) → IdlePast (l .lanes) (set (l .lane) i y)
+  past-idle y =
+      record {
+        few = open-line .lanes-fit;
+        idle = rw (drop-set-lt (l .lanes) (l .lane) i y h) (all-from (on isIdle) (drop (l .lanes) (l .lane)) idleLane past-at);
+      }
 
   -- the records gathered so far end in range, so that with those of one more lane they are far from any bound of their type
   pub total-low : l .pointer .0 + countsOf (l .lane) .total ≤ mostPointer

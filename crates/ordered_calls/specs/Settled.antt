@@ -1,13 +1,17 @@
 -- What an enter comes to, from a few numbers, and what it leaves. Tied to `callEvent` by ordered_calls/Steps: enter-step.
-use Prim.Native.Nat.{ℕ, _+_}
+use Prim.Native.Nat.{ℕ, _+_, _≤_}
 use mathlib.Core.Bool.{Bool, true, false, cond, not}
 use mathlib.Core.List.{List}
+use mathlib.Core.Path.{_≡_}
 use lib.Dec.{eqb}
+use lib.ListN.{drop}
+use Rattle.lists.specs.Lists.{allPass}
+use Rattle.limits.specs.Limits.{mostLanes}
 use Rattle.view.specs.View.{fits, place}
 use Rattle.line.specs.declared.Lane.{Lane}
 use Rattle.line.specs.declared.Line.{Line}
 use Rattle.line.specs.declared.Phase.{Phase}
-use Rattle.line.specs.Line.{isIdle, phaseAt}
+use Rattle.line.specs.Line.{isIdle, on, phaseAt}
 use Rattle.lane_tests.specs.Rules.{countsOf}
 use Rattle.steps.specs.Effects.{started}
 use Rattle.steps.specs.State.{Result, leaves, withLanes, withPointer}
@@ -39,6 +43,11 @@ enterOf l i c =
     admitted (phaseAt l i) (eqb (countsOf (l .lane) .active) (countsOf (l .lane) .gathered))
     (fits (l .view) (l .capacity) (l .pointer) (totalWith l c))
     (eqb (countsOf (l .lane) .gathered + 1) (l .lanes))
+
+-- the lanes past the first n, as many as a line can have, are idle
+pub record IdlePast (n : ℕ) (lanes : List Lane) : Type 0 where
+  pub few : n ≤ mostLanes
+  pub idle : allPass (on isIdle) (drop n lanes) ≡ true
 
 -- all N start, from the pointer, which moves past their records
 abbrev pub completed : Line → List Lane → ℕ → Outcome

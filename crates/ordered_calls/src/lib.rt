@@ -9,7 +9,7 @@ ghost use Rattle.event.specs.declared.Event.{Event};
 ghost use Rattle.steps.specs.Effects.{started, startedAt};
 ghost use Rattle.steps.specs.Meets.{Meets, stateOf};
 ghost use Rattle.steps.specs.Step.{callEvent};
-ghost use Rattle.ordered_calls.specs.Settled.{admitted, completed, settled};
+ghost use Rattle.ordered_calls.specs.Settled.{IdlePast, admitted, completed, settled};
 use changes::phases::to_write;
 use lane_tests::tallies::counts_of;
 use limits::MOST_LANES;
@@ -57,15 +57,16 @@ fn start_at(phase: Phase, at: u32) -> Phase
     }
 }
 
-// "lane r gets pointer + the counts of lanes below r".
-pub fn start_all(lanes: [Lane; MOST_LANES], pointer: u32) -> [Lane; MOST_LANES]
-    requires { ⌜ pointer ≤ mostPointer ⌝ }
+// "lane r gets pointer + the counts of lanes below r": the first n lanes, past which all are idle.
+pub fn start_all(lanes: [Lane; MOST_LANES], n: u8, pointer: u32) -> [Lane; MOST_LANES]
+    requires { ⌜ (pointer ≤ mostPointer) × IdlePast n lanes ⌝ }
     ensures { λ r. ⌜ r ≡ started pointer lanes ⌝ }
 {
+    let end = n as usize;
     let mut out = lanes;
     let mut at = pointer;
     let mut r: usize = 0;
-    while r < MOST_LANES {
+    while r < end {
         let own = out[r];
         let phase = own.phase;
         out[r] = Lane {
@@ -79,11 +80,11 @@ pub fn start_all(lanes: [Lane; MOST_LANES], pointer: u32) -> [Lane; MOST_LANES]
 
 // All N lanes are in, with `total` records: each starts after those below it.
 fn complete(line: Line, lanes: [Lane; MOST_LANES], total: u32) -> Outcome
-    requires { ⌜ line .pointer .0 + total ≤ mostPointer ⌝ }
+    requires { ⌜ (line .pointer .0 + total ≤ mostPointer) × IdlePast (line .lanes) lanes ⌝ }
     ensures { λ r. ⌜ r ≡ completed line lanes total ⌝ }
 {
     let before = line.pointer;
-    let started = start_all(lanes, before.0);
+    let started = start_all(lanes, line.lanes, before.0);
     let pointer = Place(before.0 + total);
     let mut next = line;
     next.lane = started;
@@ -96,7 +97,7 @@ fn complete(line: Line, lanes: [Lane; MOST_LANES], total: u32) -> Outcome
 
 // What an enter leaves, with the lanes as they are once this one is in: the line as it is, these lanes, or all of them started.
 fn settle(line: Line, lanes: [Lane; MOST_LANES], total: u32, came: Entered) -> Outcome
-    requires { ⌜ (came ≡ Entered.Complete → line .pointer .0 + total ≤ mostPointer) ⌝ }
+    requires { ⌜ (came ≡ Entered.Complete → line .pointer .0 + total ≤ mostPointer) × IdlePast (line .lanes) lanes ⌝ }
     ensures { λ r. ⌜ r ≡ settled line lanes total came ⌝ }
 {
     let mut next = line;

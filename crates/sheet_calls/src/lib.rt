@@ -36,6 +36,13 @@ pub struct Called {
     pub starts: bool,
 }
 
+// A call of a lane: its kind and lane, what the lane sees, and the counts of all lanes.
+pub struct Caller {
+    pub head: Head,
+    pub seen: Seen,
+    pub counts: LaneCounts,
+}
+
 // Whether an answer is a refusal.
 fn is_refusal(answer: Answer) -> bool
     ensures { λ r. ⌜ r ≡ isRefusal answer ⌝ }
@@ -125,9 +132,7 @@ fn refused_call(
 
 // A call of a lane: 4 and 8 come before what its kind tests.
 pub fn call_lane(
-    head: Head,
-    seen: Seen,
-    counts: LaneCounts,
+    caller: Caller,
     tiling: Tiling,
     records: &[u16; MOST_RECORDS],
     flags: &[u8; MOST_LANES],
@@ -136,10 +141,13 @@ pub fn call_lane(
     out: &mut [u8],
     at: usize,
 ) -> Called
-    requires ready { ⌜ Ready seen counts tiling (now records) (length (now book)) ⌝ }
-    requires room { ⌜ Room head (now sheet) (now out) at ⌝ }
-    ensures { λ r. ⌜ RanCall head (now (sheet .entry)) seen counts tiling (now (records .entry)) (now (flags .entry)) (now (book .entry)) (now (out .entry)) at r (now (book .exit)) (now (out .exit)) ⌝ }
+    requires ready { ⌜ Ready (caller .seen) (caller .counts) tiling (now records) (length (now book)) ⌝ }
+    requires room { ⌜ Room (caller .head) (now sheet) (now out) at ⌝ }
+    ensures { λ r. ⌜ RanCall (caller .head) (now (sheet .entry)) (caller .seen) (caller .counts) tiling (now (records .entry)) (now (flags .entry)) (now (book .entry)) (now (out .entry)) at r (now (book .exit)) (now (out .exit)) ⌝ }
 {
+    let head = caller.head;
+    let seen = caller.seen;
+    let counts = caller.counts;
     let kind = head.kind;
     let to = head.to;
     let lane = head.lane;

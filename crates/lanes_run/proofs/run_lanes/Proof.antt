@@ -2,39 +2,48 @@
 use Prim.Native.Nat.{ℕ, _+_, _-_, _≤_, _<_}
 use mathlib.Core.Path.{_≡_, ap, _∙_}
 use mathlib.Core.Logic.{⊎-elim}
+use mathlib.Core.List.{List}
 use native.Mathlib.Omega.{arith}
-use lib.ListN.{length}
+use lib.ListN.{getD, length}
 use borrow.Author.Tests.{not-false, not-true}
+use Rattle.tiling.specs.Tiling.{recordsOf, tilingOf}
+use Rattle.tiling.specs.declared.Tiling.{Tiling}
+use Rattle.tiling.proofs.Laws.{tileable}
+use Rattle.line.proofs.Facts.{good-of}
 use Rattle.steps.specs.Meets.{stateOf}
+use Rattle.line.specs.Line.{idleLane}
 use Rattle.line.specs.declared.Lane.{Lane}
 use Rattle.line.specs.declared.Line.{Line}
 use Rattle.lane_tests.specs.Rules.{countsOf}
-use Rattle.line_number.specs.Numbered.{Keeps}
+use Rattle.line_number.specs.Numbered.{Keeps, Numbered, numberIn}
 use Rattle.changes.specs.Change.{entryOf, seenOf}
-use Rattle.changes.specs.declared.Seen.{Seen}
 use Rattle.number_text.proofs.Decimal.{few-digits}
 use Rattle.call_head.specs.Head.{Headed}
-use Rattle.line_number.proofs.Bytes.{keeps-own}
-use Rattle.lanes_run.specs.Parts.{Going, lineNow}
+use Rattle.call_head.specs.declared.Head.{Head}
+use Rattle.line_number.proofs.Bytes.{keeps-number, keeps-own}
+use Rattle.sheet_calls.specs.Calls.{RanCall}
+use Rattle.sheet_calls.specs.declared.Called.{Called}
+use Rattle.sheet_calls.specs.declared.Caller.{Caller}
+use Rattle.lanes_run.specs.Parts.{Going, callerNow, lineNow}
 use Rattle.lanes_run.proofs.Going.{good-state, starts}
 use Rattle.lanes_run.proofs.Stores.{sees-now}
-use Rattle.lanes_run.proofs.Turns.{moves, none-on, none-on-counts, ran-as, refused-on, started-on, turned, woken-on, woken-on-counts}
-use Rattle.lanes_run.proofs.Refusals.{line-moves, line-refused-on}
+use Rattle.lanes_run.proofs.Turns.{Turn, moves, none-on, none-on-counts, ran-as, refused-on, started-on, started-past, turned, woken-on, woken-on-counts}
+use Rattle.lanes_run.proofs.Refusals.{line-moves, line-refused-on, refusal-now}
 use Rattle.lanes_run.proofs.Ready.{numbers-of, ready, ready-as}
 use borrow.Author.Needs.{needs}
 use Rattle.lanes_run.proofs.run_lanes.Statement.{statement}
 use Rattle.lanes_run.proofs.run_lanes.Tie as tie
 
 abbrev Inv-loop : tie.InvT-loop
-Inv-loop tiling records book₀ sheet out₀ line size₀ pointer₀ lane₀ flag₀ counts₀ at₀ length₀ number₀ book out size pointer lane flag counts at len number =
-    (Going sheet (stateOf line book₀) out₀ at₀ length₀ (number₀ .number) (lineNow line size pointer lane flag) book out at len (number .number)) × (counts ≡ countsOf lane) × Keeps (number .number) number
+Inv-loop book₀ sheet out₀ line tiling records size₀ pointer₀ lane₀ flag₀ counts₀ at₀ length₀ number₀ book out size pointer lane flag counts at len number =
+    (Going sheet (stateOf line book₀) out₀ at₀ length₀ (numberIn number₀) (lineNow line size pointer lane flag) book out at len (numberIn number)) × (counts ≡ countsOf lane) × Keeps (numberIn number) number
 
 abbrev μ-loop : tie.MeasureT-loop
-μ-loop tiling records book₀ sheet out₀ line size₀ pointer₀ lane₀ flag₀ counts₀ at₀ length₀ number₀ book out size pointer lane flag counts at len number = length sheet - at
+μ-loop book₀ sheet out₀ line tiling records size₀ pointer₀ lane₀ flag₀ counts₀ at₀ length₀ number₀ book out size pointer lane flag counts at len number = length sheet - at
 
--- ---- the places on the way of a turn, and what is known there
+-- ---- the places before the loop, and what is known there
 abbrev start-of : tie.After-plain-number Inv-loop μ-loop → tie.Start Inv-loop μ-loop
-start-of c = c .before .before .before .before .before .before .before .before .before
+start-of c = c .before .before .before .before .before .before .before .before .before .before .before .before
 
 abbrev start : tie.At-loop Inv-loop μ-loop → tie.Start Inv-loop μ-loop
 start l = start-of (l .before)
@@ -42,9 +51,39 @@ start l = start-of (l .before)
 abbrev line : tie.At-loop Inv-loop μ-loop → Line
 line l = start l .args .from .line
 
+abbrev sheet : tie.At-loop Inv-loop μ-loop → List ℕ
+sheet l = start l .args .sheet .now
+
+-- the view's table
+abbrev tiling : tie.At-loop Inv-loop μ-loop → Tiling
+tiling l = l .before .before .before .before .before .before .before .of .result
+
+abbrev table : tie.At-loop Inv-loop μ-loop → List ℕ
+table l = l .before .before .before .before .before .before .records-of .result
+
+tiles : (l : tie.At-loop Inv-loop μ-loop) → tiling l ≡ tilingOf (line l .view)
+tiles l = l .before .before .before .before .before .before .before .of .ensures
+
+tabled : (l : tie.At-loop Inv-loop μ-loop) → table l ≡ recordsOf (line l .view)
+tabled l = l .before .before .before .before .before .before .records-of .ensures
+
+records-of-requires : tie.Need-records-of-requires Inv-loop μ-loop
+records-of-requires c κs =
+    let s = c .before .before .before .before .before .before in
+    let l = s .args .from .line in
+    let n = length (s .args .book .now) in
+    tileable (l .capacity) (l .view) (numbers-of l n (good-of l n (s .pre .shaped) (s .pre .is-sound)) .view)
+
+plain-number-requires : tie.Need-plain-number-requires Inv-loop μ-loop
+plain-number-requires c κs = let s = c .before .before .before .before .before .before .before .before .before .before .before in omega (arith, s .pre .numbered, s .pre .inside, s .pre .room, s .good)
+
+-- ---- the loop
 -- the line as it is
 abbrev now-line : tie.At-loop Inv-loop μ-loop → Line
 now-line l = lineNow (line l) (l .loop .size) (l .loop .pointer) (l .loop .lane) (l .loop .flag)
+
+abbrev number : tie.At-loop Inv-loop μ-loop → ℕ
+number l = numberIn (l .loop .number)
 
 -- two lines more fit
 room : (l : tie.At-loop Inv-loop μ-loop) → l .loop .length + 112 ≤ length (l .loop .out)
@@ -52,60 +91,74 @@ room l =
     let G = l .loop .inv .0 in
     omega (arith, G .short, G .inside, G .out-length, start l .pre .room)
 
+-- each event has a line's room, so that its number is far from any bound
+number-small : (l : tie.At-loop Inv-loop μ-loop) → number l + 11 < 18446744073709551616
+number-small l = omega (arith, l .loop .inv .0 .numbered, l .loop .inv .0 .inside, start l .pre .room, start l .good)
+
 loop-holds : tie.Need-loop-holds Inv-loop μ-loop
 loop-holds c =
     let s = start-of c in
     let keeps = c .plain-number .ensures in
     let B = s .pre in (
-      starts (s .args .sheet .now) (s .args .from .line) (s .args .book .now) (s .args .out .now) (s .args .from .at) (s .args .from .length) (c .plain-number .result .number)
-          (B .shaped) (B .is-sound) (B .inside) (omega (arith, keeps .number, B .numbered)) (B .short),
+      starts (s .args .sheet .now) (s .args .from .line) (s .args .book .now) (s .args .out .now) (s .args .from .at) (s .args .from .length) (numberIn (c .plain-number .result))
+          (B .shaped) (B .is-sound) (B .inside) (omega (arith, keeps-number keeps, B .numbered)) (B .short),
       c .before .counts-of .ensures,
       keeps-own keeps,
     )
 
+-- ---- a call of a lane
 put-line-number-requires : tie.Need-put-line-number-requires Inv-loop μ-loop
 put-line-number-requires c κs = let l = c .before .before .before .before .before .before in (l .loop .inv .2, omega (arith, room l))
 
-number-small : (l : tie.At-loop Inv-loop μ-loop) → l .loop .number .number < 18446744073709551615
-number-small l = omega (arith, l .loop .inv .0 .numbered, l .loop .inv .0 .inside, start l .good)
-
--- ---- a call of a lane
-abbrev entry-loop : tie.After-entry-of Inv-loop μ-loop → tie.At-loop Inv-loop μ-loop
-entry-loop e = e .before .before .before
-
-abbrev lane-of : tie.After-entry-of Inv-loop μ-loop → ℕ
-lane-of e = e .before .before .head-at .result .lane
-
-abbrev entry-of : tie.After-see-own Inv-loop μ-loop → tie.After-entry-of Inv-loop μ-loop
-entry-of c = c .before .before
-
-sees : (c : tie.After-see-own Inv-loop μ-loop) → c .see-own .result ≡ seenOf (now-line (entry-loop (entry-of c))) (entryOf (lane-of (entry-of c)))
-sees c = let e = entry-of c in let l = entry-loop e in sees-now (now-line l) (e .entry-of .result) (entryOf (lane-of e)) (l .loop .counts) (c .see-own .result) (e .entry-of .ensures .0) (l .loop .inv .1) (c .see-own .ensures)
-
-headed : (e : tie.After-entry-of Inv-loop μ-loop) → Headed (start (entry-loop e) .args .sheet .now) (entry-loop e .loop .at) (e .before .before .head-at .result)
-headed e = e .before .before .head-at .ensures .call (e .before .if1 .taken)
+-- what a turn knows, from what its functions give
+turn-at : (l : tie.At-loop Inv-loop μ-loop) (h : Head) → Headed (sheet l) (l .loop .at) h → (i : ℕ) → i ≡ entryOf (h .lane)
+    → (c : Caller) → c ≡ callerNow h (line l) (l .loop .size) (l .loop .pointer) (l .loop .counts) (getD (l .loop .lane) i idleLane) (getD (l .loop .flag) i 0)
+    → (mid : List ℕ) (to : ℕ) → Numbered (number l) (l .loop .out) (l .loop .length) mid to
+    → (r : Called) (book out : List ℕ) → RanCall (c .head) (sheet l) (c .seen) (c .counts) (tiling l) (table l) (l .loop .flag) (l .loop .book) mid to r book out
+    → length book ≡ length (l .loop .book) → length out ≡ length (l .loop .out)
+    → Turn (sheet l) (stateOf (line l) (start l .args .book .now)) (start l .args .out .now) (start l .args .from .at) (start l .args .from .length) (numberIn (l .before .plain-number .result)) (now-line l)
+    (l .loop .book) (l .loop .out) (l .loop .at) (l .loop .length) (number l) h (c .seen) (l .loop .counts) r book out
+turn-at l h headed i own c is mid to put r book out ran same-book same-out =
+    record {
+      going = l .loop .inv .0;
+      small = omega (arith, number-small l);
+      headed = headed;
+      sees = sees-now (now-line l) i (entryOf (h .lane)) (l .loop .counts) (c .seen) own (l .loop .inv .1) (ap (λ (x : Caller). x .seen) is);
+      same = l .loop .inv .1;
+      mid = mid;
+      start = to;
+      put = put;
+      ran = ran-as (line l .view) (ap (λ (x : Caller). x .head) is) (ap (λ (x : Caller). x .counts) is) (tiles l) (tabled l) ran;
+      same-book = same-book;
+      same-out = same-out;
+    }
 
 call-lane-requires : tie.Need-call-lane-requires Inv-loop μ-loop
 call-lane-requires c κs =
-    let put = c .before .before .before .before .before in
-    let see = put .before .before in
-    let e = entry-of see in
-    let l = entry-loop e in
+    let put = c .before .before .before .before .before .before in
+    let caller = put .before .before in
+    let e = caller .before .before in
+    let head = e .before .before in
+    let l = head .before in
+    let h = head .head-at .result in
+    let H = head .head-at .ensures .call (e .before .if1 .taken) in
     let I = l .loop .inv in
-    let B = start l .pre in (
-      ready-as (now-line l) (entryOf (lane-of e)) (sees see) (I .1) (B .tiles) (B .table) (ready (now-line l) (length (l .loop .book)) (I .0 .shaped) (good-state (I .0)) (entryOf (lane-of e)) (omega arith)),
-      record { kind = headed e .kind; fields = headed e .room; text = omega (arith, put .put-line-number .ensures .ends, few-digits 19 (l .loop .number .number) (omega (arith, number-small l)), room l, put .put-line-number .kept .0) },
+    let is = caller .caller-of .ensures in
+    let sees = sees-now (now-line l) (e .entry-of .result) (entryOf (h .lane)) (l .loop .counts) (caller .caller-of .result .seen) (e .entry-of .ensures .0) (I .1) (ap (λ (x : Caller). x .seen) is) in (
+      ready-as (now-line l) (entryOf (h .lane)) sees (ap (λ (x : Caller). x .counts) is ∙ I .1) (tiles l) (tabled l) (ready (now-line l) (length (l .loop .book)) (I .0 .shaped) (good-state (I .0)) (entryOf (h .lane)) (omega arith)),
+      rw (ap (λ (x : Caller). x .head) is)
+          (record { kind = H .kind; fields = H .room; text = omega (arith, put .put-line-number .ensures .ends, few-digits 19 (number l) (omega (arith, number-small l)), room l, put .put-line-number .kept .0) }),
     )
 
 -- ---- the indices of the stores
 array-write-flag : tie.Need-array-write-flag Inv-loop μ-loop
-array-write-flag c = omega (arith, c .before .before .before .before .before .before .before .before .before .before .before .before .before .before .before .before .before .before .before .entry-of .ensures .1)
+array-write-flag c = omega (arith, c .before .before .before .before .before .before .before .before .before .before .before .before .before .before .before .before .before .before .before .before .entry-of .ensures .1)
 
 mul-lane : tie.Need-mul-lane Inv-loop μ-loop
-mul-lane c = omega (arith, c .before .before .before .before .before .before .before .before .before .before .before .before .before .before .before .before .before .before .before .entry-of .ensures .1)
+mul-lane c = omega (arith, c .before .before .before .before .before .before .before .before .before .before .before .before .before .before .before .before .before .before .before .before .entry-of .ensures .1)
 
 array-set-from-lane : tie.Need-array-set-from-lane Inv-loop μ-loop
-array-set-from-lane c = omega (arith, c .before .before .before .before .before .before .before .before .before .before .before .before .before .before .before .before .before .before .before .entry-of .ensures .1)
+array-set-from-lane c = omega (arith, c .before .before .before .before .before .before .before .before .before .before .before .before .before .before .before .before .before .before .before .before .entry-of .ensures .1)
 
 mul-waiting : tie.Need-mul-waiting Inv-loop μ-loop
 mul-waiting c = omega (arith, c .entry-of2 .ensures .1)
@@ -121,105 +174,108 @@ array-set-from-lane-2 c = omega (arith, c .before .before .entry-of2 .ensures .1
 
 start-all-requires : tie.Need-start-all-requires Inv-loop μ-loop
 start-all-requires c κs =
-    let l = c .before .before .before .before .before .before .before .before .before .before .before .before .before .before .before .before .before .before .before .before .before .before .before .before .before .before in
-    let pointer = ap (λ (s : Seen). s .pointer .0) (sees (c .before .before .before .before .before .before .before .before .before .before .before .before .before .before .before .before .before .before .before .before .before)) in
-    omega (arith, pointer, numbers-of (now-line l) (length (l .loop .book)) (good-state (l .loop .inv .0)) .reach)
+    let call = c .before .before .before .before .before .before .before .before .before .before .before .before in
+    let put = call .before .before .before .before .before .before .before in
+    let caller = put .before .before in
+    let e = caller .before .before in
+    let head = e .before .before in
+    let l = head .before in
+    let t = turn-at l (head .head-at .result) (head .head-at .ensures .call (e .before .if1 .taken)) (e .entry-of .result) (e .entry-of .ensures .0) (caller .caller-of .result) (caller .caller-of .ensures) _ _ (put .put-line-number .ensures)
+    (call .call-lane .result) _ _ (call .call-lane .ensures) (call .call-lane .kept .1 .1 .1 .1 .0) (call .call-lane .kept .1 .1 .1 .1 .1 .1 .0 ∙ put .put-line-number .kept .0) in (
+      omega (arith, numbers-of (now-line l) (length (l .loop .book)) (good-state (l .loop .inv .0)) .reach),
+      started-past t (e .entry-of .result) (e .entry-of .ensures .0) (not-true _ (c .before .before .before .before .before .before .if2 .taken)) (c .if3 .taken) _,
+    )
 
-refuse-line-requires : tie.Need-refuse-line-requires Inv-loop μ-loop
-refuse-line-requires c κs = omega (arith, room (c .before .before .before .before))
+-- ---- a call on the whole line, or the end
+number-of-requires : tie.Need-number-of-requires Inv-loop μ-loop
+number-of-requires c κs = c .before .before .before .before .before .before .loop .inv .2
 
 same-length : tie.Need-same-length Inv-loop μ-loop
-same-length c = c .before .before .before .before .before .before .before .before .before .before .loop .inv .0 .book-length
+same-length c = c .before .before .before .before .before .before .before .before .loop .inv .0 .book-length
 
 same-length-2 : tie.Need-same-length-2 Inv-loop μ-loop
-same-length-2 c = c .before .before .before .before .before .refuse-line .kept .1 .1 .1 .1 .1 .0 ∙ c .before .before .before .before .before .before .before .before .before .before .loop .inv .0 .out-length
+same-length-2 c = c .before .before .before .before .before .before .before .before .loop .inv .0 .out-length
 
 returns : tie.Need-returns Inv-loop μ-loop
 returns c =
-    let refused = c .before .before .before .before .before in
-    let w = refused .before .before in
-    let t = w .before in
+    let w = c .before .before in
+    let t = w .before .before .before .before in
     let l = t .before .before in
-    let I = l .loop .inv in
-    let same = refused .refuse-line .ensures .no (not-true _ (c .before .if4 .taken)) in
-    let first = l .before .plain-number .ensures .number in
-    record { going = rw (c .stand-at .ensures, w .line-with .ensures, same, ← first) (I .0); stops = rw (c .stand-at .ensures) (t .before .head-at .ensures .other (t .if1 .left)) }
+    let first = keeps-number (l .before .plain-number .ensures) in
+    record { going = rw (c .stand-at .ensures, w .line-with .ensures, c .before .number-of .ensures, ← first) (l .loop .inv .0); stops = rw (c .stand-at .ensures) (t .before .head-at .ensures .other (t .if1 .left)) }
 
+number-of-requires-2 : tie.Need-number-of-requires-2 Inv-loop μ-loop
+number-of-requires-2 c κs = c .before .before .before .before .before .before .loop .inv .2
+
+put-refusal-requires : tie.Need-put-refusal-requires Inv-loop μ-loop
+put-refusal-requires c κs = omega (arith, room (c .before .before .before .before .before .before .before))
+
+-- ---- the next turn
 next-number-requires : tie.Need-next-number-requires Inv-loop μ-loop
-next-number-requires c κs = let l = c .before .before in (l .loop .inv .2, omega (arith, l .loop .inv .0 .numbered, l .loop .inv .0 .inside, start l .good))
+next-number-requires c κs = let l = c .before .before in (l .loop .inv .2, number-small l)
 
 loop-less : tie.Need-loop-less Inv-loop μ-loop
 loop-less c =
     let l = c .before .before .before in
-    let I = l .loop .inv in
-    let B = start l .pre in
     let head = c .before .before .head-at in
     let h = head .result in
     ⊎-elim
     (λ w.
-    let seen = sees-now (now-line l) (w .1 .result) (entryOf (h .lane)) (l .loop .counts) (w .3 .result) (w .1 .ensures .0) (I .1) (w .3 .ensures) in
-    let m = moves (start l .args .sheet .now) _ _ _ _ _ (now-line l) (l .loop .book) (l .loop .out) (l .loop .at) (l .loop .length) (l .loop .number .number) (I .0) (omega (arith, number-small l)) h (head .ensures .call (w .0 .taken)) (w .3 .result) seen (l .loop .counts) (I .1)
-    _ _ (w .5 .ensures) (w .11 .result) _ _ (ran-as (line l .view) (B .tiles) (B .table) (w .11 .ensures)) (w .11 .kept .1 .1 .1 .1 .1 .1 .0) (w .11 .kept .1 .1 .1 .1 .1 .1 .1 .1 .0 ∙ w .5 .kept .0) in
+    let m = moves (turn-at l h (head .ensures .call (w .0 .taken)) (w .1 .result) (w .1 .ensures .0) (w .3 .result) (w .3 .ensures) _ _ (w .5 .ensures) (w .12 .result) _ _ (w .12 .ensures) (w .12 .kept .1 .1 .1 .1 .0) (w .12 .kept .1 .1 .1 .1 .1 .1 .0 ∙ w .5 .kept .0)) in
+    omega (arith, w .35, m .0, m .1))
+    (⊎-elim
+    (λ w.
+    let m = moves (turn-at l h (head .ensures .call (w .0 .taken)) (w .1 .result) (w .1 .ensures .0) (w .3 .result) (w .3 .ensures) _ _ (w .5 .ensures) (w .12 .result) _ _ (w .12 .ensures) (w .12 .kept .1 .1 .1 .1 .0) (w .12 .kept .1 .1 .1 .1 .1 .1 .0 ∙ w .5 .kept .0)) in
     omega (arith, w .34, m .0, m .1))
     (⊎-elim
     (λ w.
-    let seen = sees-now (now-line l) (w .1 .result) (entryOf (h .lane)) (l .loop .counts) (w .3 .result) (w .1 .ensures .0) (I .1) (w .3 .ensures) in
-    let m = moves (start l .args .sheet .now) _ _ _ _ _ (now-line l) (l .loop .book) (l .loop .out) (l .loop .at) (l .loop .length) (l .loop .number .number) (I .0) (omega (arith, number-small l)) h (head .ensures .call (w .0 .taken)) (w .3 .result) seen (l .loop .counts) (I .1)
-    _ _ (w .5 .ensures) (w .11 .result) _ _ (ran-as (line l .view) (B .tiles) (B .table) (w .11 .ensures)) (w .11 .kept .1 .1 .1 .1 .1 .1 .0) (w .11 .kept .1 .1 .1 .1 .1 .1 .1 .1 .0 ∙ w .5 .kept .0) in
-    omega (arith, w .34, m .0, m .1))
+    let m = moves (turn-at l h (head .ensures .call (w .0 .taken)) (w .1 .result) (w .1 .ensures .0) (w .3 .result) (w .3 .ensures) _ _ (w .5 .ensures) (w .12 .result) _ _ (w .12 .ensures) (w .12 .kept .1 .1 .1 .1 .0) (w .12 .kept .1 .1 .1 .1 .1 .1 .0 ∙ w .5 .kept .0)) in
+    omega (arith, w .32, m .0, m .1))
     (⊎-elim
     (λ w.
-    let seen = sees-now (now-line l) (w .1 .result) (entryOf (h .lane)) (l .loop .counts) (w .3 .result) (w .1 .ensures .0) (I .1) (w .3 .ensures) in
-    let m = moves (start l .args .sheet .now) _ _ _ _ _ (now-line l) (l .loop .book) (l .loop .out) (l .loop .at) (l .loop .length) (l .loop .number .number) (I .0) (omega (arith, number-small l)) h (head .ensures .call (w .0 .taken)) (w .3 .result) seen (l .loop .counts) (I .1)
-    _ _ (w .5 .ensures) (w .11 .result) _ _ (ran-as (line l .view) (B .tiles) (B .table) (w .11 .ensures)) (w .11 .kept .1 .1 .1 .1 .1 .1 .0) (w .11 .kept .1 .1 .1 .1 .1 .1 .1 .1 .0 ∙ w .5 .kept .0) in
-    omega (arith, w .31, m .0, m .1))
-    (⊎-elim
+    let m = moves (turn-at l h (head .ensures .call (w .0 .taken)) (w .1 .result) (w .1 .ensures .0) (w .3 .result) (w .3 .ensures) _ _ (w .5 .ensures) (w .12 .result) _ _ (w .12 .ensures) (w .12 .kept .1 .1 .1 .1 .0) (w .12 .kept .1 .1 .1 .1 .1 .1 .0 ∙ w .5 .kept .0)) in
+    omega (arith, w .26, m .0, m .1))
     (λ w.
-    let seen = sees-now (now-line l) (w .1 .result) (entryOf (h .lane)) (l .loop .counts) (w .3 .result) (w .1 .ensures .0) (I .1) (w .3 .ensures) in
-    let m = moves (start l .args .sheet .now) _ _ _ _ _ (now-line l) (l .loop .book) (l .loop .out) (l .loop .at) (l .loop .length) (l .loop .number .number) (I .0) (omega (arith, number-small l)) h (head .ensures .call (w .0 .taken)) (w .3 .result) seen (l .loop .counts) (I .1)
-    _ _ (w .5 .ensures) (w .11 .result) _ _ (ran-as (line l .view) (B .tiles) (B .table) (w .11 .ensures)) (w .11 .kept .1 .1 .1 .1 .1 .1 .0) (w .11 .kept .1 .1 .1 .1 .1 .1 .1 .1 .0 ∙ w .5 .kept .0) in
-    omega (arith, w .25, m .0, m .1))
-    (λ w.
-    let m = line-moves (w .3 .ensures .yes (not-false _ (w .7 .left))) in
-    omega (arith, w .15, m .0, m .1)))))
+    let m = line-moves (w .1 .ensures (w .3 .left)) in
+    omega (arith, w .16, m .0, m .1)))))
     (c .before .if1 .came)
 
 loop-again : tie.Need-loop-again Inv-loop μ-loop
 loop-again c =
     let l = c .before .before .before in
     let I = l .loop .inv in
-    let B = start l .pre in
     let head = c .before .before .head-at in
     let h = head .result in
     let keeps = c .next-number .ensures in
     ⊎-elim
     (λ w.
-    let seen = sees-now (now-line l) (w .1 .result) (entryOf (h .lane)) (l .loop .counts) (w .3 .result) (w .1 .ensures .0) (I .1) (w .3 .ensures) in
-    turned (line l) (w .27) (w .28) (w .29) (w .30) (w .31) (w .32) (w .33) (w .34) (w .35) (woken-on (start l .args .sheet .now) _ _ _ _ _ (now-line l) (l .loop .book) (l .loop .out) (l .loop .at) (l .loop .length) (l .loop .number .number) (I .0) (omega (arith, number-small l)) h (head .ensures .call (w .0 .taken)) (w .3 .result) seen (l .loop .counts) (I .1)
-    _ _ (w .5 .ensures) (w .11 .result) _ _ (ran-as (line l .view) (B .tiles) (B .table) (w .11 .ensures)) (w .11 .kept .1 .1 .1 .1 .1 .1 .0) (w .11 .kept .1 .1 .1 .1 .1 .1 .1 .1 .0 ∙ w .5 .kept .0) (w .1 .result) (w .1 .ensures .0) (not-true _ (w .17 .taken)) (w .22 .given .0 .0) (w .24 .result) (w .26 .result .phase) (w .22 .given .1) (w .24 .ensures .0) (ap (λ (x : Lane). x .phase) (w .26 .ensures)))
-    (woken-on-counts (start l .args .sheet .now) _ _ _ _ _ (now-line l) (l .loop .book) (l .loop .out) (l .loop .at) (l .loop .length) (l .loop .number .number) (I .0) (omega (arith, number-small l)) h (head .ensures .call (w .0 .taken)) (w .3 .result) seen (l .loop .counts) (I .1)
-    _ _ (w .5 .ensures) (w .11 .result) _ _ (ran-as (line l .view) (B .tiles) (B .table) (w .11 .ensures)) (w .11 .kept .1 .1 .1 .1 .1 .1 .0) (w .11 .kept .1 .1 .1 .1 .1 .1 .1 .1 .0 ∙ w .5 .kept .0) (w .1 .result) (w .1 .ensures .0) (not-true _ (w .17 .taken)) (w .22 .given .0 .0) (w .24 .result) (w .26 .result .phase) (w .22 .given .1) (w .24 .ensures .0) (ap (λ (x : Lane). x .phase) (w .26 .ensures))) keeps)
+    let t = turn-at l h (head .ensures .call (w .0 .taken)) (w .1 .result) (w .1 .ensures .0) (w .3 .result) (w .3 .ensures) _ _ (w .5 .ensures) (w .12 .result) _ _ (w .12 .ensures) (w .12 .kept .1 .1 .1 .1 .0) (w .12 .kept .1 .1 .1 .1 .1 .1 .0 ∙ w .5 .kept .0) in
+    let told = not-true _ (w .18 .taken) in
+    let y = ap (λ (x : Lane). x .phase) (w .27 .ensures) in
+    turned (line l) (w .28) (w .29) (w .30) (w .31) (w .32) (w .33) (w .34) (w .35) (w .36)
+    (woken-on t (w .1 .result) (w .1 .ensures .0) told (w .23 .given .0 .0) (w .25 .result) (w .27 .result .phase) (w .23 .given .1) (w .25 .ensures .0) y)
+    (woken-on-counts t (w .1 .result) (w .1 .ensures .0) told (w .23 .given .0 .0) (w .25 .result) (w .27 .result .phase) (w .23 .given .1) (w .25 .ensures .0) y) keeps)
     (⊎-elim
     (λ w.
-    let seen = sees-now (now-line l) (w .1 .result) (entryOf (h .lane)) (l .loop .counts) (w .3 .result) (w .1 .ensures .0) (I .1) (w .3 .ensures) in
-    turned (line l) (w .27) (w .28) (w .29) (w .30) (w .31) (w .32) (w .33) (w .34) (w .35) (rw (w .25 .ensures) (started-on (start l .args .sheet .now) _ _ _ _ _ (now-line l) (l .loop .book) (l .loop .out) (l .loop .at) (l .loop .length) (l .loop .number .number) (I .0) (omega (arith, number-small l)) h (head .ensures .call (w .0 .taken)) (w .3 .result) seen (l .loop .counts) (I .1)
-    _ _ (w .5 .ensures) (w .11 .result) _ _ (ran-as (line l .view) (B .tiles) (B .table) (w .11 .ensures)) (w .11 .kept .1 .1 .1 .1 .1 .1 .0) (w .11 .kept .1 .1 .1 .1 .1 .1 .1 .1 .0 ∙ w .5 .kept .0) (w .1 .result) (w .1 .ensures .0) (not-true _ (w .17 .taken)) (w .23 .taken)))
+    let t = turn-at l h (head .ensures .call (w .0 .taken)) (w .1 .result) (w .1 .ensures .0) (w .3 .result) (w .3 .ensures) _ _ (w .5 .ensures) (w .12 .result) _ _ (w .12 .ensures) (w .12 .kept .1 .1 .1 .1 .0) (w .12 .kept .1 .1 .1 .1 .1 .1 .0 ∙ w .5 .kept .0) in
+    turned (line l) (w .27) (w .28) (w .29) (w .30) (w .31) (w .32) (w .33) (w .34) (w .35)
+    (rw (w .25 .ensures) (started-on t (w .1 .result) (w .1 .ensures .0) (not-true _ (w .18 .taken)) (w .24 .taken)))
     (w .26 .ensures) keeps)
     (⊎-elim
     (λ w.
-    let seen = sees-now (now-line l) (w .1 .result) (entryOf (h .lane)) (l .loop .counts) (w .3 .result) (w .1 .ensures .0) (I .1) (w .3 .ensures) in
-    turned (line l) (w .24) (w .25) (w .26) (w .27) (w .28) (w .29) (w .30) (w .31) (w .32) (none-on (start l .args .sheet .now) _ _ _ _ _ (now-line l) (l .loop .book) (l .loop .out) (l .loop .at) (l .loop .length) (l .loop .number .number) (I .0) (omega (arith, number-small l)) h (head .ensures .call (w .0 .taken)) (w .3 .result) seen (l .loop .counts) (I .1)
-    _ _ (w .5 .ensures) (w .11 .result) _ _ (ran-as (line l .view) (B .tiles) (B .table) (w .11 .ensures)) (w .11 .kept .1 .1 .1 .1 .1 .1 .0) (w .11 .kept .1 .1 .1 .1 .1 .1 .1 .1 .0 ∙ w .5 .kept .0) (w .1 .result) (w .1 .ensures .0) (not-true _ (w .17 .taken)) (w .22 .given .1) (w .23 .left))
-    (none-on-counts (start l .args .sheet .now) _ _ _ _ _ (now-line l) (l .loop .book) (l .loop .out) (l .loop .at) (l .loop .length) (l .loop .number .number) (I .0) (omega (arith, number-small l)) h (head .ensures .call (w .0 .taken)) (w .3 .result) seen (l .loop .counts) (I .1)
-    _ _ (w .5 .ensures) (w .11 .result) _ _ (ran-as (line l .view) (B .tiles) (B .table) (w .11 .ensures)) (w .11 .kept .1 .1 .1 .1 .1 .1 .0) (w .11 .kept .1 .1 .1 .1 .1 .1 .1 .1 .0 ∙ w .5 .kept .0) (w .1 .result) (w .1 .ensures .0) (not-true _ (w .17 .taken)) (w .22 .given .1) (w .23 .left)) keeps)
+    let t = turn-at l h (head .ensures .call (w .0 .taken)) (w .1 .result) (w .1 .ensures .0) (w .3 .result) (w .3 .ensures) _ _ (w .5 .ensures) (w .12 .result) _ _ (w .12 .ensures) (w .12 .kept .1 .1 .1 .1 .0) (w .12 .kept .1 .1 .1 .1 .1 .1 .0 ∙ w .5 .kept .0) in
+    let told = not-true _ (w .18 .taken) in
+    turned (line l) (w .25) (w .26) (w .27) (w .28) (w .29) (w .30) (w .31) (w .32) (w .33)
+    (none-on t (w .1 .result) (w .1 .ensures .0) told (w .23 .given .1) (w .24 .left))
+    (none-on-counts t (w .1 .result) (w .1 .ensures .0) told (w .23 .given .1) (w .24 .left)) keeps)
     (⊎-elim
     (λ w.
-    let seen = sees-now (now-line l) (w .1 .result) (entryOf (h .lane)) (l .loop .counts) (w .3 .result) (w .1 .ensures .0) (I .1) (w .3 .ensures) in
-    turned (line l) (w .18) (w .19) (w .20) (w .21) (w .22) (w .23) (w .24) (w .25) (w .26) (refused-on (start l .args .sheet .now) _ _ _ _ _ (now-line l) (l .loop .book) (l .loop .out) (l .loop .at) (l .loop .length) (l .loop .number .number) (I .0) (omega (arith, number-small l)) h (head .ensures .call (w .0 .taken)) (w .3 .result) seen (l .loop .counts) (I .1)
-    _ _ (w .5 .ensures) (w .11 .result) _ _ (ran-as (line l .view) (B .tiles) (B .table) (w .11 .ensures)) (w .11 .kept .1 .1 .1 .1 .1 .1 .0) (w .11 .kept .1 .1 .1 .1 .1 .1 .1 .1 .0 ∙ w .5 .kept .0) (not-false _ (w .17 .left))) (I .1) keeps)
+    let t = turn-at l h (head .ensures .call (w .0 .taken)) (w .1 .result) (w .1 .ensures .0) (w .3 .result) (w .3 .ensures) _ _ (w .5 .ensures) (w .12 .result) _ _ (w .12 .ensures) (w .12 .kept .1 .1 .1 .1 .0) (w .12 .kept .1 .1 .1 .1 .1 .1 .0 ∙ w .5 .kept .0) in
+    turned (line l) (w .19) (w .20) (w .21) (w .22) (w .23) (w .24) (w .25) (w .26) (w .27) (refused-on t (not-false _ (w .18 .left))) (I .1) keeps)
     (λ w.
-    let refused = w .3 .ensures .yes (not-false _ (w .7 .left)) in
-    turned (line l) (w .8) (w .9) (w .10) (w .11) (w .12) (w .13) (w .14) (w .15) (w .16) (line-refused-on (I .0) (I .1) (w .1 .ensures) refused (w .3 .kept .1 .1 .1 .1 .1 .0)) (I .1) keeps))))
+    let stored = w .6 .ensures in
+    turned (line l) (w .9) (w .10) (w .11) (w .12) (w .13) (w .14) (w .15) (w .16) (w .17)
+    (line-refused-on (I .0) (I .1) (w .3 .left) (refusal-now (l .loop .lane) (l .loop .flag) (w .1 .ensures (w .3 .left))) (rw (w .5 .ensures) at (stored .0)) (stored .1) (w .6 .kept .0)) (I .1) keeps))))
     (c .before .if1 .came)
 
 pub run-lanes-spec : {M : Type 1} → statement M
@@ -229,7 +285,9 @@ run-lanes-spec =
     Inv-loop
     μ-loop
     (λ c κs. search needs)
+    records-of-requires
     (λ c κs. search needs)
+    plain-number-requires
     loop-holds
     (λ c κs. search needs)
     (λ c κs. search needs)
@@ -253,11 +311,14 @@ run-lanes-spec =
     start-all-requires
     (λ c κs. search needs)
     (λ c κs. search needs)
-    refuse-line-requires
+    (λ c κs. search needs)
+    number-of-requires
     (λ c κs. search needs)
     same-length
     same-length-2
     returns
+    number-of-requires-2
+    put-refusal-requires
     next-number-requires
     loop-less
     loop-again)

@@ -4,7 +4,7 @@ use native.Mathlib.Omega.{arith}
 use borrow.Author.Needs.{needs}
 use Rattle.line.specs.Line.{Shaped}
 use Rattle.refuse.proofs.Shape.{shape-of}
-use Rattle.ordered_calls.proofs.Steps.{index-in}
+use Rattle.ordered_calls.proofs.Steps.{index-in, past-idle}
 use Rattle.ordered_calls.proofs.Calls.{enters, gathered-in, lane-refused, reach, total-in, unopened-refused}
 use Rattle.ordered_calls.proofs.enter.Statement.{statement}
 use Rattle.ordered_calls.proofs.enter.Tie as tie
@@ -56,9 +56,11 @@ settle-requires c κs =
     let fit = c .before .before .before .before in
     let n = fit .before .before .before in
     let e2 = n .before .before .before in
-    let s = e2 .before .before .before .before .before in
-    reach (s .args .line) (s .args .book .now) (s .pre) (s .args .lane) (s .args .count) (shape s) (e2 .if2 .left) (n .counts-of .result) (n .counts-of .ensures) (fit .fits2 .result) (fit .fits2 .ensures)
-    (c .admit .result) (c .admit .ensures)
+    let s = e2 .before .before .before .before .before in (
+      reach (s .args .line) (s .args .book .now) (s .pre) (s .args .lane) (s .args .count) (shape s) (e2 .if2 .left) (n .counts-of .result) (n .counts-of .ensures) (fit .fits2 .result) (fit .fits2 .ensures)
+          (c .admit .result) (c .admit .ensures),
+      past-idle (s .args .line) (s .args .book .now) (shape s) (s .pre) (s .args .lane) (e2 .if2 .left) _,
+    )
 
 returns-3 : tie.Need-returns-3
 returns-3 c =

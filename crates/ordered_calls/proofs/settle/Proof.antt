@@ -4,7 +4,7 @@ use Rattle.ordered_calls.proofs.settle.Statement.{statement}
 use Rattle.ordered_calls.proofs.settle.Tie as tie
 
 complete-requires : tie.Need-complete-requires
-complete-requires c κs = c .before .before .pre (c .enum-told2 .given .1)
+complete-requires c κs = let p = c .before .before .pre in (p .0 (c .enum-told2 .given .1), p .1)
 
 returns : tie.Need-returns
 returns c = rw (c .before .before .came .given .1) (c .refuse .ensures)

@@ -14,23 +14,23 @@ use Rattle.sheet_calls.proofs.call_lane.Tie as tie
 
 -- ---- past the tests of the lane
 abbrev start-of : tie.Else1 → tie.Start
-start-of e = e .before .before .before .before .before
+start-of e = e .before .before .before .before .before .before .before .before
 
-there : (e : tie.Else1) → missingLane (start-of e .args .seen .lanes) (start-of e .args .head .lane) ≡ 0
+there : (e : tie.Else1) → missingLane (start-of e .args .caller .seen .lanes) (start-of e .args .caller .head .lane) ≡ 0
 there e = sym (e .before .missing-lane .ensures) ∙ e .if1 .left
 
 -- the room of a kind that is known
-room : (e : tie.Else1) (k : ℕ) → start-of e .args .head .kind ≡ k → start-of e .args .head .to + total (restOf k) ≤ length (start-of e .args .sheet .now)
-room e k kind = let s = start-of e in room-of (s .args .head .kind) k (s .args .head .to) _ kind (s .pre .1 .fields)
+room : (e : tie.Else1) (k : ℕ) → start-of e .args .caller .head .kind ≡ k → start-of e .args .caller .head .to + total (restOf k) ≤ length (start-of e .args .sheet .now)
+room e k kind = let s = start-of e in room-of (s .args .caller .head .kind) k (s .args .caller .head .to) _ kind (s .pre .1 .fields)
 
-inside : (e : tie.Else1) → start-of e .args .head .to ≤ length (start-of e .args .sheet .now)
+inside : (e : tie.Else1) → start-of e .args .caller .head .to ≤ length (start-of e .args .sheet .now)
 inside e = omega (arith, start-of e .pre .1 .fields)
 
-nine : (m : tie.At-match-rest) → start-of (m .before) .args .head .kind ≡ 9
+nine : (m : tie.At-match-rest) → start-of (m .before) .args .caller .head .kind ≡ 9
 nine m =
     let o = m .match .rest in
     let s = start-of (m .before) in
-    last-kind (s .args .head .kind) (s .pre .1 .kind) (o .0 .0 .0 .0 .0 .0 .0 .1) (o .0 .0 .0 .0 .0 .0 .1) (o .0 .0 .0 .0 .0 .1) (o .0 .0 .0 .0 .1) (o .0 .0 .0 .1) (o .0 .0 .1) (o .0 .1) (o .1)
+    last-kind (s .args .caller .head .kind) (s .pre .1 .kind) (o .0 .0 .0 .0 .0 .0 .0 .1) (o .0 .0 .0 .0 .0 .0 .1) (o .0 .0 .0 .0 .0 .1) (o .0 .0 .0 .0 .1) (o .0 .0 .0 .1) (o .0 .0 .1) (o .0 .1) (o .1)
 
 returns : tie.Need-returns
 returns c =
@@ -38,10 +38,10 @@ returns c =
     let rest = call .before .before in
     let t = rest .before in
     let m = t .before in
-    let s = m .before .before .before .before in
+    let s = m .before .before .before .before .before .before .before in
     let e = m .missing-lane .ensures in
     by-missing (s .pre .1 .kind) (s .pre .1 .fields) (λ z. t .if1 .taken (e ∙ z))
-    (refused-as e (ap (λ (n : ℕ). s .args .head .to + n) (rest .rest-of .ensures .0)) (call .refused-call .ensures)) refl
+    (refused-as e (ap (λ (n : ℕ). s .args .caller .head .to + n) (rest .rest-of .ensures .0)) (call .refused-call .ensures)) refl
 
 call-want-requires : tie.Need-call-want-requires
 call-want-requires c κs =
@@ -92,7 +92,7 @@ returns-3 c =
     let m = call .before .before in
     let s = start-of (m .before) .args in
     by-kind 3 (m .match .keys2) (λ z. omega (arith, z)) (there (m .before))
-    (call .call-receive .ensures (s .head .lane) (s .tiling) (s .records .now) (s .flags .now) (s .book .now) (s .sheet .now) (inside (m .before)))
+    (call .call-receive .ensures (s .caller .head .lane) (s .tiling) (s .records .now) (s .flags .now) (s .book .now) (s .sheet .now) (inside (m .before)))
 
 returns-4 : tie.Need-returns-4
 returns-4 c =
@@ -106,28 +106,28 @@ returns-5 c =
     let call = c .before .before .before .before in
     let m = call .before .before .before in
     let s = start-of (m .before) .args in
-    by-kind 5 (m .match .keys4) (λ z. omega (arith, z)) (there (m .before)) (call .call-write .ensures (s .head .lane) (s .flags .now))
+    by-kind 5 (m .match .keys4) (λ z. omega (arith, z)) (there (m .before)) (call .call-write .ensures (s .caller .head .lane) (s .flags .now))
 
 returns-6 : tie.Need-returns-6
 returns-6 c =
     let call = c .before .before in
     let m = call .before .before .before in
     let s = start-of (m .before) .args in
-    by-kind 6 (m .match .keys5) (λ z. omega (arith, z)) (there (m .before)) (call .call-read .ensures (s .head .lane) (s .flags .now) (s .sheet .now) (inside (m .before)))
+    by-kind 6 (m .match .keys5) (λ z. omega (arith, z)) (there (m .before)) (call .call-read .ensures (s .caller .head .lane) (s .flags .now) (s .sheet .now) (inside (m .before)))
 
 returns-7 : tie.Need-returns-7
 returns-7 c =
     let call = c .before .before .before .before in
     let m = call .before .before .before in
     let s = start-of (m .before) .args in
-    by-kind 7 (m .match .keys6) (λ z. omega (arith, z)) (there (m .before)) (call .call-put .ensures (s .head .lane) (s .flags .now))
+    by-kind 7 (m .match .keys6) (λ z. omega (arith, z)) (there (m .before)) (call .call-put .ensures (s .caller .head .lane) (s .flags .now))
 
 returns-8 : tie.Need-returns-8
 returns-8 c =
     let call = c .before .before in
     let m = call .before .before .before in
     let s = start-of (m .before) .args in
-    by-kind 8 (m .match .keys7) (λ z. omega (arith, z)) (there (m .before)) (call .call-look .ensures (s .head .lane) (s .flags .now))
+    by-kind 8 (m .match .keys7) (λ z. omega (arith, z)) (there (m .before)) (call .call-look .ensures (s .caller .head .lane) (s .flags .now))
 
 returns-9 : tie.Need-returns-9
 returns-9 c =
