@@ -1,4 +1,3 @@
 -- The laws of the run.
 pub mod Last
 pub mod Going
-pub mod Stores

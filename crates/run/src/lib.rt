@@ -3,22 +3,15 @@ ghost use Prim.Native.Nat.{_+_, _≤_};
 ghost use mathlib.Core.Bool.{true};
 ghost use mathlib.Core.Path.{_≡_};
 ghost use lib.ListN.{length};
-ghost use Rattle.lists.specs.Lists.{somePass};
-ghost use Rattle.line.specs.Line.{isGathered, lane, on};
 ghost use Rattle.line.specs.Sound.{sound};
-ghost use Rattle.steps.specs.Effects.{woken};
 ghost use Rattle.steps.specs.Meets.{stateOf};
 ghost use Rattle.run_text.specs.RunText.{mostLast, mostText};
 ghost use Rattle.run.specs.Runs.{Ended, RunMeets, RunSound};
 use answer_text::Printed;
 use answer_text::put_answer;
-use changes::Seen;
-use changes::entry_of;
-use changes::phases::wake_with;
 use event::Reading;
-use lane_calls::decide;
-use lane_tests::tallies::any_gathered;
-use line::Lane;
+use lanes_run::run_lanes;
+use lanes_run::stand_at;
 use line::Line;
 use line_calls::call_line;
 use reader::event_at;
@@ -27,31 +20,11 @@ use run_text::put_last;
 use scopes::Scope;
 use scopes::scope_of;
 use soundness::is_sound;
-use view::Place;
-use waitlist::Wakes;
 
 // What a run gives: the line as it leaves it, and the length of the text, or that the buffer lent for the text is too short.
 pub struct RunOutcome {
     pub line: Line,
     pub printed: Printed,
-}
-
-// Whether some lane of a line is gathered.
-fn some_gathered(line: Line) -> bool
-    ensures { λ r. ⌜ r ≡ somePass (on isGathered) (line .lane) ⌝ }
-{
-    let lanes = line.lane;
-    any_gathered(lanes)
-}
-
-// A waiting lane, woken with the pointer.
-fn wake_lane(waiting: Lane, pointer: Place) -> Lane
-    ensures { λ r. ⌜ r ≡ lane (woken pointer (waiting .phase)) ⌝ }
-{
-    let phase = waiting.phase;
-    Lane {
-        phase: wake_with(pointer, phase),
-    }
 }
 
 // The end of a run: the last lines stored, and the line as it is.
@@ -66,68 +39,29 @@ fn end_run(line: Line, reading: Reading, out: &mut [u8], at: usize, number: u64)
     }
 }
 
-// The run on a sound line, which stays in one local; a change of a lane is stored by its index. An event that was read is of a listed kind, so that the last arm is never reached.
+// The run on a sound line, part by part: the calls of lanes, then one call on the whole line that is not refused. A call of a lane never stands where a part ends, so that the last return is never reached.
 fn run_sound(line: Line, book: &mut [u8], sheet: &[u8], out: &mut [u8]) -> RunOutcome
     requires { ⌜ (sound line (length (now book)) ≡ true) × (mostText (length (now sheet)) ≤ length (now out)) ⌝ }
     ensures { λ r. ⌜ RunSound (stateOf line (now (book .entry))) (now (sheet .entry)) (now (out .entry)) r (now (book .exit)) (now (out .exit)) ⌝ }
 {
-    let mut next = line;
-    let mut gathering = some_gathered(next);
-    let mut at: usize = 0;
-    let mut length: usize = 0;
-    let mut number: u64 = 0;
+    let mut from = stand_at(line, 0, 0, 0);
     loop {
-        let step = event_at(sheet, at);
+        let to = run_lanes(from, book, sheet, out);
+        let here = to.line;
+        let step = event_at(sheet, to.at);
         let reading = step.reading;
         let Reading::Event { event, next: _ } = reading else {
-            return end_run(next, reading, out, length, number);
+            return end_run(here, reading, out, to.length, to.number);
         };
-        at = step.at;
-        match scope_of(event) {
-            Scope::Line { call } => {
-                let called = call_line(next, book, call);
-                let answer = called.answer;
-                length = put_answer(out, length, number, answer);
-                number += 1;
-                let after = called.line;
-                gathering = some_gathered(after);
-                next = after;
-            }
-            Scope::Lane { lane, call } => {
-                let i = entry_of(lane);
-                let own = next.lane[i];
-                let phase = own.phase;
-                let pointer = next.pointer;
-                let seen = Seen {
-                    lanes: next.lanes,
-                    capacity: next.capacity,
-                    size: next.size,
-                    pointer,
-                    gathering,
-                    phase,
-                    flag: next.flag[i],
-                };
-                let change = decide(seen, lane, next.view, &next.flag, book, call);
-                let answer = change.answer;
-                length = put_answer(out, length, number, answer);
-                number += 1;
-                let changed = change.phase;
-                let moved = change.pointer;
-                next.flag[i] = change.flag;
-                next.lane[i] = Lane { phase: changed };
-                next.pointer = moved;
-                next.size = change.size;
-                let wakes = change.wakes;
-                if let Wakes::Lane(woken) = wakes {
-                    let w = entry_of(woken);
-                    let waiting = next.lane[w];
-                    next.lane[w] = wake_lane(waiting, moved);
-                }
-            }
-            Scope::Unlisted => {
-                return end_run(next, Reading::Refused(2), out, length, number);
-            }
-        }
+        let scope = scope_of(event);
+        let Scope::Line { call } = scope else {
+            return end_run(here, Reading::Refused(2), out, to.length, to.number);
+        };
+        let called = call_line(here, book, call);
+        let answer = called.answer;
+        let length = put_answer(out, to.length, to.number, answer);
+        let after = called.line;
+        from = stand_at(after, step.at, length, to.number + 1);
     }
 }
 
