@@ -10,11 +10,13 @@ use Rattle.line.specs.Line.{Shaped}
 use Rattle.line.specs.Sound.{sound}
 use Rattle.line.specs.declared.Lane.{Lane}
 use Rattle.line.specs.declared.Line.{Line}
+use Rattle.lane_tests.specs.Rules.{countsOf}
 use Rattle.lane_tests.specs.declared.tallies.LaneCounts.{LaneCounts}
 use Rattle.event.specs.ReadWrite.{readAt}
 use Rattle.event.specs.declared.Cursor.{Cursor}
 use Rattle.event.specs.declared.Event.{Event}
 use Rattle.event.specs.declared.Reading.{Reading}
+use Rattle.steps.specs.Effects.{started}
 use Rattle.steps.specs.Meets.{stateOf}
 use Rattle.steps.specs.State.{State}
 use Rattle.changes.specs.declared.Seen.{Seen}
@@ -32,6 +34,7 @@ use Rattle.answer_text.specs.Printing.{mostLine}
 use Rattle.run_text.specs.RunText.{mostText}
 use Rattle.lanes_run.specs.declared.LineRefused.{LineRefused}
 use Rattle.lanes_run.specs.declared.Standing.{Standing}
+use Rattle.lanes_run.specs.declared.Started.{Started}
 
 -- ---- the line by what lanes' calls change of it
 abbrev pub lineNow : Line → ℕ → Place → List Lane → List ℕ → Line
@@ -45,6 +48,10 @@ seenNow lanes capacity size pointer counts own flag =
 -- a call of a lane in it
 abbrev pub callerNow : Head → Line → ℕ → Place → LaneCounts → Lane → ℕ → Caller
 callerNow h l size pointer counts own flag = record { head = h; seen = seenNow (l .lanes) (l .capacity) size pointer counts own flag; counts = counts }
+
+-- the lanes of an ordered call that has started from the pointer, and their counts
+abbrev pub startedNow : ℕ → List Lane → Started
+startedNow pointer lanes = record { lane = started pointer lanes; counts = countsOf (started pointer lanes) }
 
 -- ---- a part of a run
 -- the text of the answers, numbered from k on, and of what a run leaves

@@ -2,13 +2,15 @@
 ghost use Prim.Native.Nat.{_+_, _≤_};
 ghost use mathlib.Core.Path.{_≡_};
 ghost use lib.ListN.{length};
+ghost use Rattle.limits.specs.Limits.{mostPointer};
 ghost use Rattle.line.specs.Line.{lane};
 ghost use Rattle.steps.specs.Effects.{woken};
 ghost use Rattle.steps.specs.declared.Answer.{Answer};
+ghost use Rattle.ordered_calls.specs.Settled.{IdlePast};
 ghost use Rattle.printout.specs.Print.{answerLine};
 ghost use Rattle.number_text.specs.Stored.{Stored};
 ghost use Rattle.answer_text.specs.Printing.{mostLine};
-ghost use Rattle.lanes_run.specs.Parts.{Begun, RefusedLine, Went, callerNow, lineNow};
+ghost use Rattle.lanes_run.specs.Parts.{Begun, RefusedLine, Went, callerNow, lineNow, startedNow};
 use answer_text::put_answer;
 use call_head::Head;
 use call_head::head_at;
@@ -50,6 +52,12 @@ pub struct Standing {
 pub struct LineRefused {
     pub number: u8,
     pub at: usize,
+}
+
+// The lanes once an ordered call has started, and their counts.
+pub struct Started {
+    pub lane: [Lane; MOST_LANES],
+    pub counts: LaneCounts,
 }
 
 // A waiting lane, woken with the pointer.
@@ -171,6 +179,16 @@ fn line_with(
     next
 }
 
+// An ordered call starts: the first n lanes, from the pointer; no lane is gathered then.
+fn start_lanes(lanes: [Lane; MOST_LANES], n: u8, pointer: u32) -> Started
+    requires { ⌜ (pointer ≤ mostPointer) × IdlePast n lanes ⌝ }
+    ensures { λ r. ⌜ r ≡ startedNow pointer lanes ⌝ }
+{
+    let lane = start_all(lanes, n, pointer);
+    let counts = counts_of(lane);
+    Started { lane, counts }
+}
+
 // The calls of lanes, and the refused ones on the whole line, as far as there are such. What they change of the line stays in locals, and the view's records in a
 // table, which is made here: the view stays as it is.
 pub fn run_lanes(from: Standing, book: &mut [u8], sheet: &[u8], out: &mut [u8]) -> Standing
@@ -214,8 +232,9 @@ pub fn run_lanes(from: Standing, book: &mut [u8], sheet: &[u8], out: &mut [u8]) 
                     let waiting = lane[w];
                     lane[w] = wake_lane(waiting, pointer);
                 } else if called.starts {
-                    lane = start_all(lane, line.lanes, before.0);
-                    counts = counts_of(lane);
+                    let started = start_lanes(lane, line.lanes, before.0);
+                    lane = started.lane;
+                    counts = started.counts;
                 }
             }
         } else {

@@ -1,6 +1,6 @@
 -- `run_lanes` meets its contract: each turn of the loop is one event of the run.
 use Prim.Native.Nat.{ℕ, _+_, _-_, _≤_, _<_}
-use mathlib.Core.Path.{_≡_, ap, _∙_}
+use mathlib.Core.Path.{_≡_, sym, ap, _∙_}
 use mathlib.Core.Logic.{⊎-elim}
 use mathlib.Core.List.{List}
 use native.Mathlib.Omega.{arith}
@@ -25,6 +25,7 @@ use Rattle.sheet_calls.specs.Calls.{RanCall}
 use Rattle.sheet_calls.specs.declared.Called.{Called}
 use Rattle.sheet_calls.specs.declared.Caller.{Caller}
 use Rattle.lanes_run.specs.Parts.{Going, callerNow, lineNow}
+use Rattle.lanes_run.specs.declared.Started.{Started}
 use Rattle.lanes_run.proofs.Going.{good-state, starts}
 use Rattle.lanes_run.proofs.Stores.{sees-now}
 use Rattle.lanes_run.proofs.Turns.{Turn, moves, none-on, none-on-counts, ran-as, refused-on, started-on, started-past, turned, woken-on, woken-on-counts}
@@ -172,8 +173,8 @@ mul-lane-2 c = omega (arith, c .before .before .entry-of2 .ensures .1)
 array-set-from-lane-2 : tie.Need-array-set-from-lane-2 Inv-loop μ-loop
 array-set-from-lane-2 c = omega (arith, c .before .before .entry-of2 .ensures .1)
 
-start-all-requires : tie.Need-start-all-requires Inv-loop μ-loop
-start-all-requires c κs =
+start-lanes-requires : tie.Need-start-lanes-requires Inv-loop μ-loop
+start-lanes-requires c κs =
     let call = c .before .before .before .before .before .before .before .before .before .before .before .before in
     let put = call .before .before .before .before .before .before .before in
     let caller = put .before .before in
@@ -226,7 +227,7 @@ loop-less c =
     (⊎-elim
     (λ w.
     let m = moves (turn-at l h (head .ensures .call (w .0 .taken)) (w .1 .result) (w .1 .ensures .0) (w .3 .result) (w .3 .ensures) _ _ (w .5 .ensures) (w .12 .result) _ _ (w .12 .ensures) (w .12 .kept .1 .1 .1 .1 .0) (w .12 .kept .1 .1 .1 .1 .1 .1 .0 ∙ w .5 .kept .0)) in
-    omega (arith, w .34, m .0, m .1))
+    omega (arith, w .35, m .0, m .1))
     (⊎-elim
     (λ w.
     let m = moves (turn-at l h (head .ensures .call (w .0 .taken)) (w .1 .result) (w .1 .ensures .0) (w .3 .result) (w .3 .ensures) _ _ (w .5 .ensures) (w .12 .result) _ _ (w .12 .ensures) (w .12 .kept .1 .1 .1 .1 .0) (w .12 .kept .1 .1 .1 .1 .1 .1 .0 ∙ w .5 .kept .0)) in
@@ -258,9 +259,10 @@ loop-again c =
     (⊎-elim
     (λ w.
     let t = turn-at l h (head .ensures .call (w .0 .taken)) (w .1 .result) (w .1 .ensures .0) (w .3 .result) (w .3 .ensures) _ _ (w .5 .ensures) (w .12 .result) _ _ (w .12 .ensures) (w .12 .kept .1 .1 .1 .1 .0) (w .12 .kept .1 .1 .1 .1 .1 .1 .0 ∙ w .5 .kept .0) in
-    turned (line l) (w .27) (w .28) (w .29) (w .30) (w .31) (w .32) (w .33) (w .34) (w .35)
-    (rw (w .25 .ensures) (started-on t (w .1 .result) (w .1 .ensures .0) (not-true _ (w .18 .taken)) (w .24 .taken)))
-    (w .26 .ensures) keeps)
+    let is = w .25 .ensures in
+    turned (line l) (w .28) (w .29) (w .30) (w .31) (w .32) (w .33) (w .34) (w .35) (w .36)
+    (rw (ap (λ (x : Started). x .lane) is) (started-on t (w .1 .result) (w .1 .ensures .0) (not-true _ (w .18 .taken)) (w .24 .taken)))
+    (ap (λ (x : Started). x .counts) is ∙ ap (λ (x : Started). countsOf (x .lane)) (sym is)) keeps)
     (⊎-elim
     (λ w.
     let t = turn-at l h (head .ensures .call (w .0 .taken)) (w .1 .result) (w .1 .ensures .0) (w .3 .result) (w .3 .ensures) _ _ (w .5 .ensures) (w .12 .result) _ _ (w .12 .ensures) (w .12 .kept .1 .1 .1 .1 .0) (w .12 .kept .1 .1 .1 .1 .1 .1 .0 ∙ w .5 .kept .0) in
@@ -308,8 +310,7 @@ run-lanes-spec =
     mul-lane-2
     array-set-from-lane-2
     (λ c. search needs)
-    start-all-requires
-    (λ c κs. search needs)
+    start-lanes-requires
     (λ c κs. search needs)
     (λ c κs. search needs)
     number-of-requires
