@@ -1,6 +1,6 @@
 -- The parts of a run: where it stands, and what a part of it has added. Tied to `runOn` by lanes_run/Going: goes-on, joined.
 use Prim.Native.Nat.{ℕ, _+_, _-_, _*_, _≤_}
-use mathlib.Core.Bool.{true, false, not}
+use mathlib.Core.Bool.{true, not}
 use mathlib.Core.List.{List, _++_}
 use mathlib.Core.Path.{_≡_}
 use lib.Dec.{eqb}

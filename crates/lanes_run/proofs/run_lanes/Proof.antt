@@ -16,7 +16,7 @@ use Rattle.line.specs.declared.Lane.{Lane}
 use Rattle.line.specs.declared.Line.{Line}
 use Rattle.lane_tests.specs.Rules.{countsOf}
 use Rattle.line_number.specs.Numbered.{Keeps, Numbered, numberIn}
-use Rattle.changes.specs.Change.{entryOf, seenOf}
+use Rattle.changes.specs.Change.{entryOf}
 use Rattle.number_text.proofs.Decimal.{few-digits}
 use Rattle.call_head.specs.Head.{Headed}
 use Rattle.call_head.specs.declared.Head.{Head}
