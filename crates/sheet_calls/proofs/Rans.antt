@@ -1,7 +1,7 @@
 -- What the functions of the kinds share: a call put together from what was read, decided and printed.
 use Prim.Native.Nat.{ℕ, _+_, _≤_}
 use mathlib.Core.Path.{_≡_, refl, sym, ap, _∙_, subst}
-use mathlib.Core.Bool.{true, false≢true}
+use mathlib.Core.Bool.{true, false, false≢true}
 use mathlib.Core.List.{List, _∷_}
 use lib.ListN.{drop, length}
 use Rattle.tiling.specs.declared.Tiling.{Tiling}
@@ -9,7 +9,7 @@ use Rattle.lane_tests.specs.declared.tallies.LaneCounts.{LaneCounts}
 use Rattle.event.specs.Event.{eventOf, fieldsIn}
 use Rattle.decode_fields.specs.Fields.{fieldsAt, total, values}
 use Rattle.steps.specs.declared.Answer.{Answer}
-use Rattle.changes.specs.Change.{missingLane}
+use Rattle.changes.specs.Change.{countsAfter, missingLane}
 use Rattle.changes.specs.declared.Change.{Change}
 use Rattle.changes.specs.declared.Seen.{Seen}
 use Rattle.changes.proofs.Steps.{lane-missing, lane-there}
@@ -22,14 +22,16 @@ use Rattle.call_head.specs.declared.Head.{Head}
 use Rattle.call_head.proofs.Heads.{fields-there}
 use Rattle.call_head.proofs.LaneKinds.{call-of}
 use Rattle.kind_text.specs.Put.{Put}
-use Rattle.sheet_calls.specs.Calls.{RanAt, RanBy, RanCall, RanEnter, RefusedBy, calledWith}
+use Rattle.sheet_calls.specs.Calls.{RanAt, RanBy, RanCall, RanEnter, RefusedBy, calledWith, isRefusal}
 use Rattle.sheet_calls.specs.declared.Called.{Called}
 
-pub ran-with : {decision : LaneCall → Change} {kind to lane at end next : ℕ} {sheet book out book-left out-left : List ℕ} {s : Seen} {counts : LaneCounts} {c : Change} {r : Called}
-    (call : LaneCall) (rest : List ℕ) → r ≡ calledWith s counts c end next → fieldsAt (restOf kind) sheet to ≡ values rest next → eventOf kind (lane ∷ rest) ≡ laneEvent lane call
+-- `after` are the counts after it
+pub ran-with : {decision : LaneCall → Change} {kind to lane at end next : ℕ} {sheet book out book-left out-left : List ℕ} {s : Seen} {counts after : LaneCounts} {c : Change} {r : Called}
+    (call : LaneCall) (rest : List ℕ) → r ≡ calledWith after c end next → (isRefusal (c .answer) ≡ false → after ≡ countsAfter counts s c)
+    → fieldsAt (restOf kind) sheet to ≡ values rest next → eventOf kind (lane ∷ rest) ≡ laneEvent lane call
     → c ≡ decision call → book-left ≡ bookDecided call book (c .answer) → Put (c .answer) out at out-left end
     → RanBy decision kind sheet to s counts lane book out at r book-left out-left
-ran-with call rest is fields event change puts text =
+ran-with call rest is counted fields event change puts text =
     rw is
     (record {
       call = call;
@@ -38,7 +40,7 @@ ran-with call rest is fields event change puts text =
       event = event;
       change = change;
       refused = refl;
-      counted = λ _. refl;
+      counted = counted;
       starts = refl;
       puts = puts;
       text = text;

@@ -1,10 +1,11 @@
 -- A lane's call of a sheet: what it changes by the view's table, and what its function leaves. Tied to `decidedAt` by sheet_calls/Tables: table-decided.
-use Prim.Native.Nat.{ℕ, _+_, _≤_}
+use Prim.Native.Nat.{ℕ, _+_, _-_, _≤_}
 use mathlib.Core.Path.{_≡_}
-use mathlib.Core.Bool.{Bool, true, false, not}
+use mathlib.Core.Bool.{Bool, true, false, cond, not}
 use mathlib.Core.List.{List, [], _∷_}
 use lib.Dec.{eqb}
 use lib.ListN.{length}
+use Rattle.lists.specs.Lists.{bit}
 use Rattle.limits.specs.Limits.{mostLanes, mostPointer}
 use Rattle.view.specs.View.{place}
 use Rattle.view.specs.declared.Place.{Place}
@@ -12,6 +13,7 @@ use Rattle.tiling.specs.Tiling.{Shows, tableFits, tablePosition}
 use Rattle.tiling.specs.declared.Tiling.{Tiling}
 use Rattle.line.specs.Line.{placeIn}
 use Rattle.line.specs.declared.Phase.{Phase}
+use Rattle.lane_tests.specs.Rules.{notIdle}
 use Rattle.lane_tests.specs.declared.tallies.LaneCounts.{LaneCounts}
 use Rattle.event.specs.Event.{eventOf}
 use Rattle.waitlist.specs.declared.Wakes.{Wakes}
@@ -38,10 +40,18 @@ use Rattle.sheet_calls.specs.declared.Called.{Called}
 abbrev pub isRefusal : Answer → Bool
 isRefusal a = not (saidBy a .accepted)
 
--- of a call that makes change c, with its line up to `end` and the next event at `next`
-abbrev pub calledWith : Seen → LaneCounts → Change → ℕ → ℕ → Called
-calledWith s counts c end next =
-    record { change = c; counts = countsAfter counts s c; end = end; next = next; refused = isRefusal (c .answer); starts = false }
+-- of a call that makes change c, with these counts after it, its line up to `end` and the next event at `next`
+abbrev pub calledWith : LaneCounts → Change → ℕ → ℕ → Called
+calledWith counts c end next =
+    record { change = c; counts = counts; end = end; next = next; refused = isRefusal (c .answer); starts = false }
+
+-- the counts with another number of lanes that are not idle
+abbrev pub withActive : LaneCounts → ℕ → LaneCounts
+withActive counts active = record { active = active; gathered = counts .gathered; total = counts .total }
+
+-- the counts once a lane that was not idle makes change c; of a refusal they stay
+abbrev pub activeAfter : LaneCounts → Change → LaneCounts
+activeAfter counts c = cond (isRefusal (c .answer)) counts (withActive counts (counts .active - 1 + bit (notIdle (c .phase))))
 
 -- a refusal with this number, and its line
 pub record RefusedBy (s : Seen) (number next : ℕ) (out : List ℕ) (at : ℕ) (r : Called) (out-left : List ℕ) : Type 0 where

@@ -1,12 +1,12 @@
 // A lane's call of a sheet: its fields read, decided, and the line of its answer stored. Each kind has a small function with one caller, so that it is inlined there.
 ghost use Prim.Native.Nat.{_+_, _≤_};
-ghost use mathlib.Core.Bool.{true};
+ghost use mathlib.Core.Bool.{false, true};
 ghost use mathlib.Core.Path.{_≡_};
 ghost use lib.ListN.{length};
 ghost use Rattle.lists.specs.Lists.{bit};
+ghost use Rattle.limits.specs.Limits.{mostLanes};
 ghost use Rattle.lane_tests.specs.Rules.{notIdle};
-ghost use Rattle.changes.specs.Change.{Counted, countsAfter};
-ghost use Rattle.sheet_calls.specs.Calls.{RanCall, Ready, RefusedBy, Room, calledWith, isRefusal};
+ghost use Rattle.sheet_calls.specs.Calls.{RanCall, Ready, RefusedBy, Room, activeAfter, calledWith, isRefusal, withActive};
 ghost use Rattle.answer_text.specs.Printing.{mostValues};
 use answer_text::put_refused;
 use call_head::Head;
@@ -63,34 +63,44 @@ fn not_idle(x: Phase) -> u32
     1
 }
 
-// The counts after a change of a lane that is not gathered before it or after it.
-fn counts_after(counts: LaneCounts, seen: Seen, change: Change) -> LaneCounts
-    requires { ⌜ Counted counts (seen .phase) ⌝ }
-    ensures { λ r. ⌜ r ≡ countsAfter counts seen change ⌝ }
+// The counts with another number of lanes that are not idle.
+fn with_active(counts: LaneCounts, active: u32) -> LaneCounts
+    ensures { λ r. ⌜ r ≡ withActive counts active ⌝ }
 {
-    let was = seen.phase;
-    let is = change.phase;
     LaneCounts {
-        active: counts.active + not_idle(is) - not_idle(was),
+        active,
         gathered: counts.gathered,
         total: counts.total,
     }
 }
 
-// A call by what it changes, and where its line ends.
-fn call_with(seen: Seen, counts: LaneCounts, change: Change, end: usize, next: usize) -> Called
-    requires { ⌜ Counted counts (seen .phase) ⌝ }
-    ensures { λ r. ⌜ r ≡ calledWith seen counts change end next ⌝ }
+// A call by what it changes, the counts after it, and where its line ends.
+fn call_with(counts: LaneCounts, change: Change, end: usize, next: usize) -> Called
+    ensures { λ r. ⌜ r ≡ calledWith counts change end next ⌝ }
 {
     let answer = change.answer;
     Called {
         change,
-        counts: counts_after(counts, seen, change),
+        counts,
         end,
         next,
         refused: is_refusal(answer),
         starts: false,
     }
+}
+
+// The same of a lane that was not idle, by the counts before it: one less is not idle where it is idle then. Of a refusal the counts stay.
+fn call_active(counts: LaneCounts, change: Change, end: usize, next: usize) -> Called
+    requires { ⌜ (isRefusal (change .answer) ≡ false → 1 ≤ counts .active) × (counts .active ≤ mostLanes) ⌝ }
+    ensures { λ r. ⌜ r ≡ calledWith (activeAfter counts change) change end next ⌝ }
+{
+    let answer = change.answer;
+    if is_refusal(answer) {
+        return call_with(counts, change, end, next);
+    }
+    let phase = change.phase;
+    let active = counts.active - 1 + not_idle(phase);
+    call_with(with_active(counts, active), change, end, next)
 }
 
 // For a field that the sheet does not have: never reached, since a call's body is whole.

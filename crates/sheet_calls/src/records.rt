@@ -11,7 +11,7 @@ ghost use Rattle.changes.specs.Change.{Counted};
 ghost use Rattle.answer_text.specs.Printing.{mostValues};
 ghost use Rattle.sheet_calls.specs.Calls.{RanLook, RanPut, RanRead, RanWrite};
 use crate::Called;
-use crate::call_with;
+use crate::call_active;
 use crate::cut_short;
 use changes::Seen;
 use decode_fields::Field32;
@@ -53,7 +53,7 @@ pub fn call_write(
     let answer = change.answer;
     record_calls::store(book, answer, content);
     let end = put_written(out, at, answer);
-    call_with(seen, counts, change, end, next)
+    call_active(counts, change, end, next)
 }
 
 // 06.
@@ -77,7 +77,7 @@ pub fn call_read(
     let change = record_calls::read(seen, position, book);
     let answer = change.answer;
     let end = put_read(out, at, answer);
-    call_with(seen, counts, change, end, to)
+    call_active(counts, change, end, to)
 }
 
 // 07.
@@ -107,7 +107,7 @@ pub fn call_put(
     let answer = change.answer;
     record_calls::store(book, answer, content);
     let end = put_stored(out, at, answer);
-    call_with(seen, counts, change, end, next)
+    call_active(counts, change, end, next)
 }
 
 // 08.
@@ -133,5 +133,5 @@ pub fn call_look(
     let change = record_calls::look(seen, position, book);
     let answer = change.answer;
     let end = put_looked(out, at, answer);
-    call_with(seen, counts, change, end, next)
+    call_active(counts, change, end, next)
 }

@@ -8,8 +8,10 @@ ghost use Rattle.changes.specs.Change.{Counted};
 ghost use Rattle.answer_text.specs.Printing.{mostValues};
 ghost use Rattle.sheet_calls.specs.Calls.{RanFree, RanReceive, RanTake, RanWant};
 use crate::Called;
+use crate::call_active;
 use crate::call_with;
 use crate::cut_short;
+use crate::with_active;
 use changes::Seen;
 use decode_fields::Field8;
 use decode_fields::Field16;
@@ -44,7 +46,7 @@ pub fn call_want(
     let change = turn_calls::want(seen, flags, lane, purpose);
     let answer = change.answer;
     let end = put_wanted(out, at, answer);
-    call_with(seen, counts, change, end, next)
+    call_with(with_active(counts, counts.active + 1), change, end, next)
 }
 
 // 03.
@@ -55,7 +57,7 @@ pub fn call_receive(seen: Seen, counts: LaneCounts, to: usize, out: &mut [u8], a
     let change = turn_calls::receive(seen);
     let answer = change.answer;
     let end = put_received(out, at, answer);
-    call_with(seen, counts, change, end, to)
+    call_active(counts, change, end, to)
 }
 
 // 04.
@@ -84,7 +86,7 @@ pub fn call_take(
     let change = turn_calls::take(seen, fitting, flags, lane, count);
     let answer = change.answer;
     let end = put_taken(out, at, answer);
-    call_with(seen, counts, change, end, next)
+    call_active(counts, change, end, next)
 }
 
 // 09.
@@ -103,5 +105,5 @@ pub fn call_free(
     let change = turn_calls::free(seen, flags, lane);
     let answer = change.answer;
     let end = put_freed_line(out, at, answer);
-    call_with(seen, counts, change, end, to)
+    call_active(counts, change, end, to)
 }

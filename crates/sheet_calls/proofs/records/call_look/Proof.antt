@@ -9,6 +9,7 @@ use Rattle.decode_fields.proofs.InOrder.{missed}
 use Rattle.scopes.specs.declared.LaneCall.{LaneCall}
 use Rattle.lane_calls.specs.Decided.{bookDecided}
 use Rattle.sheet_calls.specs.Calls.{tableDecided}
+use Rattle.sheet_calls.proofs.Active.{Acts, acts-counted, acts-within, idle-refused}
 use Rattle.sheet_calls.proofs.Rans.{ran-with}
 use borrow.Author.Needs.{needs}
 use Rattle.sheet_calls.proofs.records.call_look.Statement.{statement}
@@ -20,6 +21,17 @@ returns c =
     let read = told .before .before in
     absurd (omega (arith, missed (sym (read .read-u32 .ensures) ∙ ap said32 (told .enum-told .given .1)) .ends, read .before .before .before .before .pre .1 .0))
 
+abbrev start-of : tie.After-look → tie.Start
+start-of p = p .before .before .before .before .before .before .before .before .before
+
+acts : (p : tie.After-look) → Acts (start-of p .args .seen) (p .look .result)
+acts p = idle-refused (start-of p .args .seen) (p .look .ensures) (λ z. rw z)
+
+call-active-requires : tie.Need-call-active-requires
+call-active-requires c κs =
+    let p = c .before .before .before .before in
+    acts-within (start-of p .pre .0 .0) (acts p)
+
 returns-2 : tie.Need-returns-2
 unfolding tableDecided bookDecided
 returns-2 c =
@@ -27,7 +39,8 @@ returns-2 c =
     let change = put .before .before in
     let position = change .before in
     let field = position .before .before in
-    λ (lane : ℕ) (flags : List ℕ). ran-with (LaneCall.Look (place (field .place .given .0 .0))) (field .place .given .0 .0 ∷ []) (c .call-with .ensures)
+    λ (lane : ℕ) (flags : List ℕ). ran-with (LaneCall.Look (place (field .place .given .0 .0))) (field .place .given .0 .0 ∷ []) (c .call-active .ensures)
+    (acts-counted (start-of change .pre .0 .0) (acts change))
     (sym (field .before .before .read-u32 .ensures) ∙ ap said32 (field .place .given .1)) refl
     (rw (← position .position .ensures .is) (change .look .ensures)) refl (put .put-looked .ensures)
 
@@ -44,6 +57,6 @@ call-look-spec =
     (λ c κs. search needs)
     (λ c κs. search needs)
     (λ c κs. search needs)
-    (λ c κs. search needs)
+    call-active-requires
     (λ c. search needs)
     returns-2)

@@ -11,6 +11,7 @@ use Rattle.decode_fields.proofs.InOrder.{and-then, got, got-said, missed}
 use Rattle.scopes.specs.declared.LaneCall.{LaneCall}
 use Rattle.lane_calls.specs.Decided.{bookDecided}
 use Rattle.sheet_calls.specs.Calls.{tableDecided}
+use Rattle.sheet_calls.proofs.Active.{Acts, acts-counted, acts-within, idle-refused}
 use Rattle.sheet_calls.proofs.Rans.{ran-with}
 use borrow.Author.Needs.{needs}
 use Rattle.sheet_calls.proofs.records.call_put.Statement.{statement}
@@ -46,8 +47,13 @@ store-requires c κs =
 put-stored-requires : tie.Need-put-stored-requires
 put-stored-requires c κs = start-of (place-of (c .before .before .before .before .before .before)) .pre .1 .1
 
-call-with-requires : tie.Need-call-with-requires
-call-with-requires c κs = start-of (place-of (c .before .before .before .before .before .before .before .before .before)) .pre .0 .0
+acts : (p : tie.After-put) → Acts (start-of (place-of (p .before)) .args .seen) (p .put .result)
+acts p = idle-refused (start-of (place-of (p .before)) .args .seen) (p .put .ensures) (λ z. rw z)
+
+call-active-requires : tie.Need-call-active-requires
+call-active-requires c κs =
+    let p = c .before .before .before .before .before .before .before .before in
+    acts-within (start-of (place-of (p .before)) .pre .0 .0) (acts p)
 
 returns-3 : tie.Need-returns-3
 unfolding tableDecided bookDecided
@@ -60,7 +66,8 @@ returns-3 c =
     let f = place-of p in
     let k = f .place .given .0 .0 in
     let fields = and-then (got (sym (f .before .before .read-u32 .ensures) ∙ ap said32 (f .place .given .1))) (got (sym (content .before .before .read-u64 .ensures) ∙ ap said64 (content .content .given .1))) in
-    λ (lane : ℕ) (flags : List ℕ). ran-with (LaneCall.Put (place k) (content .content .given .0 .0)) (k ∷ content .content .given .0 .0 ∷ []) (c .call-with .ensures)
+    λ (lane : ℕ) (flags : List ℕ). ran-with (LaneCall.Put (place k) (content .content .given .0 .0)) (k ∷ content .content .given .0 .0 ∷ []) (c .call-active .ensures)
+    (acts-counted (start-of f .pre .0 .0) (acts change))
     (sym (got-said fields)) refl (change .put .ensures ∙ ap (putAt (start-of f .args .seen)) (p .position .ensures .is)) (stored .store .ensures) (put .put-stored .ensures)
 
 pub call-put-spec : {M : Type 1} → statement M
@@ -82,7 +89,7 @@ call-put-spec =
     (λ c κs. search needs)
     store-requires
     put-stored-requires
-    call-with-requires
+    call-active-requires
     (λ c. search needs)
     (λ c. search needs)
     returns-3)

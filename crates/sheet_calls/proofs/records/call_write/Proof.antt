@@ -14,6 +14,7 @@ use Rattle.decode_fields.proofs.InOrder.{missed}
 use Rattle.scopes.specs.declared.LaneCall.{LaneCall}
 use Rattle.lane_calls.specs.Decided.{bookDecided}
 use Rattle.sheet_calls.specs.Calls.{tableDecided}
+use Rattle.sheet_calls.proofs.Active.{Acts, acts-counted, acts-within, idle-refused}
 use Rattle.sheet_calls.proofs.Rans.{ran-with}
 use borrow.Author.Needs.{needs}
 use Rattle.sheet_calls.proofs.records.call_write.Statement.{statement}
@@ -46,8 +47,13 @@ store-requires c κs =
 put-written-requires : tie.Need-put-written-requires
 put-written-requires c κs = start-of (c .before .before .before .before .before .before) .pre .1 .1 .1
 
-call-with-requires : tie.Need-call-with-requires
-call-with-requires c κs = start-of (c .before .before .before .before .before .before .before .before .before) .pre .0 .0
+acts : (p : tie.After-write) → Acts (start-of (p .before) .args .seen) (p .write .result)
+acts p = idle-refused (start-of (p .before) .args .seen) (p .write .ensures) (λ z. rw z)
+
+call-active-requires : tie.Need-call-active-requires
+call-active-requires c κs =
+    let p = c .before .before .before .before .before .before .before .before in
+    acts-within (start-of (p .before) .pre .0 .0) (acts p)
 
 returns-2 : tie.Need-returns-2
 unfolding tableDecided bookDecided
@@ -58,7 +64,8 @@ returns-2 c =
     let p = change .before in
     let field = p .before .before .before .before in
     let s = start-of p .args .seen in
-    λ (lane : ℕ) (flags : List ℕ). ran-with (LaneCall.Write (field .content .given .0 .0)) (field .content .given .0 .0 ∷ []) (c .call-with .ensures)
+    λ (lane : ℕ) (flags : List ℕ). ran-with (LaneCall.Write (field .content .given .0 .0)) (field .content .given .0 .0 ∷ []) (c .call-active .ensures)
+    (acts-counted (start-of p .pre .0 .0) (acts change))
     (sym (field .before .before .read-u64 .ensures) ∙ ap said64 (field .content .given .1)) refl
     (change .write .ensures ∙ ap (λ (q : Position). writtenBy s q (s .phase)) (there p)) (stored .store .ensures) (put .put-written .ensures)
 
@@ -77,7 +84,7 @@ call-write-spec =
     write-requires
     store-requires
     put-written-requires
-    call-with-requires
+    call-active-requires
     (λ c. search needs)
     (λ c. search needs)
     returns-2)
