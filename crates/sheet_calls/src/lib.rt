@@ -144,16 +144,16 @@ fn refused_call(
 pub fn call_lane(
     caller: Caller,
     tiling: Tiling,
-    records: &[u16; MOST_RECORDS],
+    table: &[u16; MOST_RECORDS],
     flags: &[u8; MOST_LANES],
     book: &mut [u8],
     sheet: &[u8],
     out: &mut [u8],
     at: usize,
 ) -> Called
-    requires ready { ⌜ Ready (caller .seen) (caller .counts) tiling (now records) (length (now book)) ⌝ }
+    requires ready { ⌜ Ready (caller .seen) (caller .counts) tiling (now table) (length (now book)) ⌝ }
     requires room { ⌜ Room (caller .head) (now sheet) (now out) at ⌝ }
-    ensures { λ r. ⌜ RanCall (caller .head) (now (sheet .entry)) (caller .seen) (caller .counts) tiling (now (records .entry)) (now (flags .entry)) (now (book .entry)) (now (out .entry)) at r (now (book .exit)) (now (out .exit)) ⌝ }
+    ensures { λ r. ⌜ RanCall (caller .head) (now (sheet .entry)) (caller .seen) (caller .counts) tiling (now (table .entry)) (now (flags .entry)) (now (book .entry)) (now (out .entry)) at r (now (book .exit)) (now (out .exit)) ⌝ }
 {
     let head = caller.head;
     let seen = caller.seen;
@@ -168,23 +168,12 @@ pub fn call_lane(
     match kind {
         0x02 => turns::call_want(seen, counts, lane, flags, sheet, to, out, at),
         0x03 => turns::call_receive(seen, counts, to, out, at),
-        0x04 => turns::call_take(
-            seen,
-            counts,
-            lane,
-            tiling,
-            records,
-            flags,
-            sheet,
-            to,
-            out,
-            at,
-        ),
-        0x05 => records::call_write(seen, counts, tiling, records, book, sheet, to, out, at),
-        0x06 => records::call_read(seen, counts, tiling, records, book, to, out, at),
-        0x07 => records::call_put(seen, counts, tiling, records, book, sheet, to, out, at),
-        0x08 => records::call_look(seen, counts, tiling, records, book, sheet, to, out, at),
-        0x0A => enter::call_enter(seen, counts, tiling, records, sheet, to, out, at),
+        0x04 => turns::call_take(seen, counts, lane, tiling, table, flags, sheet, to, out, at),
+        0x05 => records::call_write(seen, counts, tiling, table, book, sheet, to, out, at),
+        0x06 => records::call_read(seen, counts, tiling, table, book, to, out, at),
+        0x07 => records::call_put(seen, counts, tiling, table, book, sheet, to, out, at),
+        0x08 => records::call_look(seen, counts, tiling, table, book, sheet, to, out, at),
+        0x0A => enter::call_enter(seen, counts, tiling, table, sheet, to, out, at),
         _ => turns::call_free(seen, counts, lane, flags, to, out, at),
     }
 }

@@ -84,7 +84,7 @@ returns-2 c =
     let call = c .before .before in
     let m = call .before .before in
     let s = start-of (m .before) .args in
-    by-kind 2 (m .match .keys1) (λ z. omega (arith, z)) (there (m .before)) (call .call-want .ensures (s .tiling) (s .records .now) (s .book .now))
+    by-kind 2 (m .match .keys1) (λ z. omega (arith, z)) (there (m .before)) (call .call-want .ensures (s .tiling) (s .table .now) (s .book .now))
 
 returns-3 : tie.Need-returns-3
 returns-3 c =
@@ -92,7 +92,7 @@ returns-3 c =
     let m = call .before .before in
     let s = start-of (m .before) .args in
     by-kind 3 (m .match .keys2) (λ z. omega (arith, z)) (there (m .before))
-    (call .call-receive .ensures (s .caller .head .lane) (s .tiling) (s .records .now) (s .flags .now) (s .book .now) (s .sheet .now) (inside (m .before)))
+    (call .call-receive .ensures (s .caller .head .lane) (s .tiling) (s .table .now) (s .flags .now) (s .book .now) (s .sheet .now) (inside (m .before)))
 
 returns-4 : tie.Need-returns-4
 returns-4 c =
@@ -140,7 +140,7 @@ returns-10 c =
     let call = c .before .before in
     let m = call .before .before in
     let s = start-of (m .before) .args in
-    by-kind 9 (nine m) (λ z. omega (arith, z)) (there (m .before)) (call .call-free .ensures (s .tiling) (s .records .now) (s .book .now) (s .sheet .now) (inside (m .before)))
+    by-kind 9 (nine m) (λ z. omega (arith, z)) (there (m .before)) (call .call-free .ensures (s .tiling) (s .table .now) (s .book .now) (s .sheet .now) (inside (m .before)))
 
 pub call-lane-spec : {M : Type 1} → statement M
 call-lane-spec =
