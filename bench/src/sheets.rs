@@ -266,6 +266,30 @@ fn refused_line_calls(sheet: &mut Sheet) {
     sheet.view(1); // 11
 }
 
+/// Seeks that are accepted, to rising places.
+pub fn seeks(length: usize) -> Vec<u8> {
+    let mut sheet = Sheet::new(length);
+    sheet.open(64, 65_536);
+    for place in 0.. {
+        sheet.seek(0, place % 65_537);
+        if sheet.full {
+            break;
+        }
+    }
+    sheet.filled()
+}
+
+/// Changes of view that are accepted, with one block and with eight by turns.
+pub fn views(length: usize) -> Vec<u8> {
+    let mut sheet = Sheet::new(length);
+    sheet.open(64, 65_536);
+    while !sheet.full {
+        sheet.view(1);
+        sheet.view(8);
+    }
+    sheet.filled()
+}
+
 /// Each workload at this length, with its name.
 pub fn workloads(length: usize) -> Vec<(&'static str, Vec<u8>)> {
     vec![
@@ -274,5 +298,7 @@ pub fn workloads(length: usize) -> Vec<(&'static str, Vec<u8>)> {
         ("whole book", whole_book(length)),
         ("ordered calls", ordered_calls(length)),
         ("refusals", refusals(length)),
+        ("seeks", seeks(length)),
+        ("views", views(length)),
     ]
 }
