@@ -1,28 +1,26 @@
 -- How a step of document 01 is a change: the refusals, the tests of 4 and 8, and what every change of a lane's call keeps.
-use Prim.Native.Nat.{ℕ, zero, suc, _≤_, _<_}
+use Prim.Native.Nat.{ℕ, _≤_, _<_}
 use mathlib.Core.Path.{_≡_, refl, sym, _∙_, subst}
 use mathlib.Core.Bool.{Bool, true, false, cond}
-use mathlib.Core.List.{List, [], _∷_}
+use mathlib.Core.List.{List}
 use native.Mathlib.Omega.{arith}
 use lib.Dec.{eqb, leb}
-use lib.ListN.{getD, length, set}
+use lib.ListN.{length}
 use lib.Seq.{set-getD}
 use borrow.Author.Tests.{leb-false, lt-ltb}
-use Rattle.lists.specs.Lists.{somePass}
 use Rattle.lists.proofs.Tests.{at-test, by-test, clash}
 use Rattle.line.specs.declared.Lane.{Lane}
 use Rattle.line.specs.declared.Line.{Line}
 use Rattle.line.specs.declared.Phase.{Phase}
 use Rattle.limits.specs.Limits.{mostLanes}
-use Rattle.line.specs.Line.{countIn, idleLane, isGathered, lane, on, isWaiting}
+use Rattle.line.specs.Line.{countIn, idleLane, isGathered, lane}
 use Rattle.line.specs.Sound.{sound}
-use Rattle.line.proofs.Phases.{numbered}
 use Rattle.view.specs.declared.Place.{Place}
 use Rattle.waitlist.specs.declared.Wakes.{Wakes}
 use Rattle.waitlist.specs.NextLane.{nextLane}
 use Rattle.waitlist.proofs.Laws.{next-below}
 use Rattle.steps.specs.declared.Answer.{Answer}
-use Rattle.steps.specs.Effects.{reading, woken, writing}
+use Rattle.steps.specs.Effects.{reading, writing}
 use Rattle.steps.specs.Meets.{stateOf}
 use Rattle.steps.specs.State.{Result}
 use Rattle.steps.specs.Step.{refuse}
@@ -138,25 +136,3 @@ found-in lanes Wakes.None below lanes-fit = refl
 
 pub next-in : (lanes : ℕ) (flags : List ℕ) (i : ℕ) → lanes ≤ mostLanes → wakesIn (nextLane lanes flags i) ≡ true
 next-in lanes flags i lanes-fit = found-in lanes (nextLane lanes flags i) (λ j e. next-below lanes flags i j e) lanes-fit
-
--- ---- so whether a lane is gathered is the same after a change
-any-set : (ls : List Lane) (i : ℕ) (x : Phase) → isGathered x ≡ isGathered (getD ls i idleLane .phase) → somePass (on isGathered) (set ls i (lane x)) ≡ somePass (on isGathered) ls
-any-set [] i x e = refl
-any-set (l ∷ ls) zero x e = rw e
-any-set (l ∷ ls) (suc i) x e = rw (any-set ls i x e)
-
-woken-gathered : (v : Place) (x : Phase) → isGathered (woken v x) ≡ isGathered x
-woken-gathered v x = by-test (isWaiting x) (λ w. rw (numbered x 1 w)) (λ w. rw w)
-
-module _ (l : Line) (i : ℕ) (x : Phase) (own : isGathered x ≡ isGathered (getD (l .lane) i idleLane .phase)) where
-  abbrev stored : List Lane
-  stored = set (l .lane) i (lane x)
-
-  woken-set : (v : Place) (f n : ℕ) (a : Answer) (w : Wakes)
-      → somePass (on isGathered) (applied l i (record { answer = a; phase = x; flag = f; pointer = v; size = n; wakes = w }) .lane) ≡ somePass (on isGathered) (l .lane)
-  woken-set v f n a (Wakes.Lane j) =
-      any-set stored j (woken v (getD stored j idleLane .phase)) (woken-gathered v (getD stored j idleLane .phase)) ∙ any-set (l .lane) i x own
-  woken-set v f n a Wakes.None = any-set (l .lane) i x own
-
-pub gathering-kept : (l : Line) (i : ℕ) (c : Change) → Regular (seenOf l i) c → somePass (on isGathered) (applied l i c .lane) ≡ somePass (on isGathered) (l .lane)
-gathering-kept l i c r = woken-set l i (c .phase) (r .gathered) (c .pointer) (c .flag) (c .size) (c .answer) (c .wakes)

@@ -1,4 +1,5 @@
-// The calls 02 to 09, which change one lane, the line's numbers and the lane that is woken, each as a change; used by the calls on a line and by the run of a sheet.
+// The calls 02 to 09, which change one lane, the line's numbers and the lane that is woken, each as a change; used by the calls on a line.
+// The run of a sheet decides by the same functions below this (turn_calls, record_calls), with the view's table (sheet_calls).
 ghost use mathlib.Core.Path.{_≡_};
 ghost use lib.ListN.{length};
 ghost use Rattle.view.specs.View.{Positioned};

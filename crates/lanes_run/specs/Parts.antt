@@ -100,5 +100,6 @@ pub record LineRefusal (l : Line) (size : ℕ) (pointer : Place) (counts : LaneC
   pub number : r .number ≡ refusalNow call l size pointer counts buffer
   pub past : r .at ≡ next .at
 
+-- nothing is said where the number is 0: then the part ends, and the call is made on the line by value
 abbrev pub RefusedLine : Line → ℕ → Place → LaneCounts → ℕ → List ℕ → ℕ → LineRefused → Type 0
 RefusedLine l size pointer counts buffer sheet at r = (r .number ≡ 0 → ⊥) → LineRefusal l size pointer counts buffer sheet at r

@@ -39,7 +39,8 @@ fn end_run(line: Line, reading: Reading, out: &mut [u8], at: usize, number: u64)
     }
 }
 
-// The run on a sound line, part by part: the calls of lanes, then one call on the whole line that is not refused. A call of a lane never stands where a part ends, so that the last return is never reached.
+// The run on a sound line, part by part: calls of lanes and refused calls on the whole line, then one call on the whole line. Where a part ends no lane calls, and an event
+// that was read is of a listed kind, so that the second return is never reached. That a refused call does not end a part is for speed, and not promised.
 fn run_sound(line: Line, book: &mut [u8], sheet: &[u8], out: &mut [u8]) -> RunOutcome
     requires { ⌜ (sound line (length (now book)) ≡ true) × (mostText (length (now sheet)) ≤ length (now out)) ⌝ }
     ensures { λ r. ⌜ RunSound (stateOf line (now (book .entry))) (now (sheet .entry)) (now (out .entry)) r (now (book .exit)) (now (out .exit)) ⌝ }

@@ -26,7 +26,7 @@ mod enter;
 mod records;
 mod turns;
 
-// What a call changes, the counts of all lanes after it, the index after its line, the index of the next event, whether it was refused, and whether it starts an ordered call.
+// What a call changes, the counts of all lanes after it (of a refused call they mean nothing, and are not stored), the index after its line, the index of the next event, whether it was refused, and whether it starts an ordered call.
 pub struct Called {
     pub change: Change,
     pub counts: LaneCounts,
@@ -89,7 +89,7 @@ fn call_with(counts: LaneCounts, change: Change, end: usize, next: usize) -> Cal
     }
 }
 
-// The same of a lane that was not idle, by the counts before it: one less is not idle where it is idle then. Of a refusal the counts stay.
+// The same for a lane that was not idle, from the counts before the call: where the call leaves the lane idle, one lane less is not idle. A refusal leaves the counts as they are.
 fn call_active(counts: LaneCounts, change: Change, end: usize, next: usize) -> Called
     requires { ⌜ (isRefusal (change .answer) ≡ false → 1 ≤ counts .active) × (counts .active ≤ mostLanes) ⌝ }
     ensures { λ r. ⌜ r ≡ calledWith (activeAfter counts change) change end next ⌝ }

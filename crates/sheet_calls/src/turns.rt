@@ -26,7 +26,7 @@ use limits::MOST_LANES;
 use tiling::MOST_RECORDS;
 use tiling::Tiling;
 
-// 02.
+// 02. The counts after it are those of a want that is accepted: the lane was idle and no longer is.
 pub fn call_want(
     seen: Seen,
     counts: LaneCounts,
