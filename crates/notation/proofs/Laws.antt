@@ -7,7 +7,7 @@ use lib.ListN.{drop, getD, length, length-append}
 use borrow.Author.Tests.{eq-eqb, ne-eqb}
 use Rattle.lists.proofs.Loops.{drop-end}
 use Rattle.lists.proofs.Parts.{drop-more}
-use Rattle.notation.specs.Notation.{bytesFrom, faultFrom, madeOf, spotFrom, spotPast, characterStep}
+use Rattle.notation.specs.Notation.{beginsNotation, bytesFrom, faultFrom, isFree, madeOf, opensNotation, spotFrom, spotPast, characterStep}
 use Rattle.notation.specs.declared.Fault.{Fault}
 use Rattle.notation.specs.declared.Spot.{Spot}
 use Rattle.notation.specs.declared.State.{State}
@@ -54,3 +54,18 @@ module _ (s : Spot) (l : List ℕ) (i : ℕ) where
   pub spot-more : i < length l → (r : Spot) → r ≡ spotPast s (getD l i 0) → spotFrom s (drop i l) ≡ spotFrom r (drop (i + 1) l)
   unfolding spotFrom
   spot-more h r e = rw (drop-more l i 0 h, e)
+
+-- whether what is left opens notation
+module _ (l : List ℕ) (i : ℕ) where
+  pub opens-end : length l ≤ i → opensNotation (drop i l) ≡ false
+  unfolding opensNotation
+  opens-end h = rw (drop-end l i h)
+
+  module _ (h : i < length l) where
+    pub opens-here : isFree (getD l i 0) ≡ false → opensNotation (drop i l) ≡ beginsNotation (getD l i 0)
+    unfolding opensNotation
+    opens-here free = rw (drop-more l i 0 h, free)
+
+    pub opens-more : isFree (getD l i 0) ≡ true → opensNotation (drop i l) ≡ opensNotation (drop (i + 1) l)
+    unfolding opensNotation
+    opens-more free = rw (drop-more l i 0 h, free)

@@ -2,3 +2,4 @@
 pub mod Steps
 pub mod Laws
 pub mod Exits
+pub mod Looks

@@ -24,18 +24,18 @@ module _ (s : State) (c : ℕ) where
       module _ (hash : c ≡ 35 → ⊥) where
         pub step-free : isFree c ≡ true → characterStep s c ≡ passedOf false (s .high)
         unfolding characterStep
-        step-free t = rw (ne-eqb c 10 line-end, outside, ne-eqb c 35 hash, t)
+        step-free t = rw (t, ne-eqb c 10 line-end, outside, ne-eqb c 35 hash)
 
         module _ (free : isFree c ≡ false) (d : ℕ) (digit : d ≡ digitOf c) where
           pub step-bad : d ≡ 16 → characterStep s c ≡ faulty (s .high)
           unfolding characterStep
-          step-bad e = rw (ne-eqb c 10 line-end, outside, ne-eqb c 35 hash, free, sym digit, eq-eqb d 16 e)
+          step-bad e = rw (free, ne-eqb c 10 line-end, outside, ne-eqb c 35 hash, sym digit, eq-eqb d 16 e)
 
           module _ (some : d ≡ 16 → ⊥) where
             pub step-first : s .high ≡ 16 → characterStep s c ≡ passedOf false d
             unfolding characterStep
-            step-first e = rw (ne-eqb c 10 line-end, outside, ne-eqb c 35 hash, free, sym digit, ne-eqb d 16 some, eq-eqb (s .high) 16 e)
+            step-first e = rw (free, ne-eqb c 10 line-end, outside, ne-eqb c 35 hash, sym digit, ne-eqb d 16 some, eq-eqb (s .high) 16 e)
 
             pub step-second : (s .high ≡ 16 → ⊥) → characterStep s c ≡ whole (s .high * 16 + d)
             unfolding characterStep
-            step-second ne = rw (ne-eqb c 10 line-end, outside, ne-eqb c 35 hash, free, sym digit, ne-eqb d 16 some, ne-eqb (s .high) 16 ne)
+            step-second ne = rw (free, ne-eqb c 10 line-end, outside, ne-eqb c 35 hash, sym digit, ne-eqb d 16 some, ne-eqb (s .high) 16 ne)

@@ -2,7 +2,7 @@
 use Prim.Native.Nat.{ℕ, _+_, _*_, _-_}
 use mathlib.Core.Bool.{Bool, true, false, cond}
 use mathlib.Core.List.{List, [], _∷_, _++_}
-use lib.ListN.{length, take}
+use lib.ListN.{drop, getD, length, take}
 use lib.Seq.{sets}
 use lib.Dec.{eqb, ltb}
 use Rattle.notation.specs.declared.Fault.{Fault}
@@ -17,9 +17,33 @@ digitOf c =
     cond (ltb c 48) 16
     (cond (ltb c 58) (c - 48) (cond (ltb c 65) 16 (cond (ltb c 71) (c - 55) (cond (ltb c 97) 16 (cond (ltb c 103) (c - 87) 16)))))
 
--- a blank, a tab, a comma or a carriage return; a line end is looked at first
+-- a line feed or a carriage return
+abbrev pub isLineEnd : ℕ → Bool
+isLineEnd c = cond (eqb c 10) true (eqb c 13)
+
+-- a blank, a tab, a comma or a line end
 abbrev pub isFree : ℕ → Bool
-isFree c = cond (eqb c 32) true (cond (eqb c 9) true (cond (eqb c 44) true (eqb c 13)))
+isFree c = cond (eqb c 32) true (cond (eqb c 9) true (cond (eqb c 44) true (isLineEnd c)))
+
+-- ---- a byte order mark, EF BB BF, at the start of a text
+abbrev pub markLength : List ℕ → ℕ
+markLength text =
+    cond (ltb (length text) 3) 0
+    (cond (eqb (getD text 0 0) 239) (cond (eqb (getD text 1 0) 187) (cond (eqb (getD text 2 0) 191) 3 0) 0) 0)
+
+abbrev pub pastMark : List ℕ → List ℕ
+pastMark text = drop (markLength text) text
+
+-- ---- whether bytes look like notation: past a mark, the first that is not free is a digit or the # of a comment
+abbrev pub beginsNotation : ℕ → Bool
+beginsNotation c = cond (eqb c 35) true (ltb (digitOf c) 16)
+
+unfoldable pub opensNotation : List ℕ → Bool
+opensNotation [] = false
+opensNotation (c ∷ cs) = cond (isFree c) (opensNotation cs) (beginsNotation c)
+
+abbrev pub looksLikeNotation : List ℕ → Bool
+looksLikeNotation text = opensNotation (pastMark text)
 
 -- ---- the state after a character
 -- no byte came of it: in a comment or not, and the first digit of a byte, or 16

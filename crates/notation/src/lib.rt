@@ -3,7 +3,7 @@ ghost use Prim.Native.Nat.{_+_, _≤_, _<_};
 ghost use mathlib.Core.Path.{_≡_};
 ghost use lib.ListN.{length};
 ghost use Rattle.number_text.specs.Stored.{Stored};
-ghost use Rattle.notation.specs.Notation.{notationBytes, digitOf, faultAt, faultOf, isFree, leftOf, madeOf, mostNotation, parsedOf, passedOf, spotOf, spotPast, characterStep, storedOf, storedTo};
+ghost use Rattle.notation.specs.Notation.{beginsNotation, notationBytes, digitOf, faultAt, faultOf, isFree, isLineEnd, leftOf, looksLikeNotation, markLength, madeOf, mostNotation, parsedOf, passedOf, spotOf, spotPast, characterStep, storedOf, storedTo};
 
 // The longest text.
 pub const MOST_NOTATION: usize = 1048576;
@@ -80,7 +80,17 @@ fn digit(c: u8) -> u8
     NONE
 }
 
-// A blank, a tab, a comma or a carriage return.
+// A line feed or a carriage return.
+fn is_line_end(c: u8) -> bool
+    ensures { λ r. ⌜ r ≡ isLineEnd c ⌝ }
+{
+    if c == b'\n' {
+        return true;
+    }
+    c == b'\r'
+}
+
+// A blank, a tab, a comma or a line end.
 fn is_free(c: u8) -> bool
     ensures { λ r. ⌜ r ≡ isFree c ⌝ }
 {
@@ -93,7 +103,50 @@ fn is_free(c: u8) -> bool
     if c == b',' {
         return true;
     }
-    c == b'\r'
+    is_line_end(c)
+}
+
+// The number of bytes of the byte order mark at a text's start, 3 or 0.
+fn mark_length(text: &[u8]) -> usize
+    ensures { λ r. ⌜ (r ≡ markLength (now (text .entry))) × (r ≤ length (now (text .entry))) ⌝ }
+{
+    if text.len() < 3 {
+        return 0;
+    }
+    if text[0] != 0xEF {
+        return 0;
+    }
+    if text[1] != 0xBB {
+        return 0;
+    }
+    if text[2] != 0xBF {
+        return 0;
+    }
+    3
+}
+
+// A digit, or the # of a comment.
+fn begins_notation(c: u8) -> bool
+    ensures { λ r. ⌜ r ≡ beginsNotation c ⌝ }
+{
+    if c == b'#' {
+        return true;
+    }
+    digit(c) < NONE
+}
+
+// Whether bytes look like notation and not like a sheet: past a mark, the first that is not free is a digit or a #.
+pub fn looks_like_notation(sheet: &[u8]) -> bool
+    ensures { λ r. ⌜ r ≡ looksLikeNotation (now (sheet .entry)) ⌝ }
+{
+    let mut i = mark_length(sheet);
+    while i < sheet.len() {
+        if !is_free(sheet[i]) {
+            return begins_notation(sheet[i]);
+        }
+        i += 1;
+    }
+    false
 }
 
 // The state after a character that ended no byte.
