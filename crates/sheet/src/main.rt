@@ -1,21 +1,24 @@
-// sheet: the papers' notation from standard input to a sheet's bytes on standard output; with the argument `show`, a sheet's bytes
-// to one readable line an event; with `version`, the library's version.
-ghost use Prim.Native.Nat.{_+_, _≤_};
+// sheet: the papers' notation from standard input to a sheet's bytes on standard output; with the word `show`, a sheet's bytes to one
+// readable line an event; with `version`, the library's version. Whatever it refuses or cannot do is told on standard error.
+ghost use Prim.Native.Nat.{_≤_};
 ghost use mathlib.Core.Path.{_≡_};
 ghost use lib.ListN.{length};
-ghost use Rattle.limits.specs.Limits.{mostSheet};
 use event::Cursor;
 use event::Event;
 use event::Reading;
 use limits::MOST_SHEET;
 use notation::MOST_NOTATION;
 use notation::Parsed;
+use standard_io::Input;
 
 // The bytes of the longest text: a byte has two digits.
 const MOST_BYTES: usize = MOST_NOTATION / 2;
 
 // Room for a line.
 const LINE: usize = 640;
+
+// The stack that is taken at most, in KiB, with what the system keeps there: measured, and rounded up.
+const NEEDED_STACK: u64 = 2048;
 
 // The buffers, as functions of which only the lengths are known where they are used.
 fn text_buffer() -> [u8; MOST_NOTATION + 1]
@@ -30,93 +33,141 @@ fn bytes_buffer() -> [u8; MOST_BYTES]
     [0; MOST_BYTES]
 }
 
-fn sheet_buffer() -> [u8; MOST_SHEET + 1]
-    ensures { λ r. ⌜ mostSheet + 1 ≡ length r ⌝ }
-{
-    [0; MOST_SHEET + 1]
-}
-
 fn line_buffer() -> [u8; LINE]
     ensures { λ r. ⌜ 640 ≡ length r ⌝ }
 {
     [0; LINE]
 }
 
-// Writes the first bytes of a buffer.
-fn write_first(file: i32, text: &[u8], count: usize) -> bool
-    requires { ⌜ count ≤ length (now text) ⌝ }
-{
-    io::write_all(file, &text[..count])
+// Writes to standard output; false, and a line on standard error, where it fails.
+fn print(text: &[u8]) -> bool {
+    if standard_io::write_text(libc::STDOUT_FILENO, text) {
+        return true;
+    }
+    os::fail(b"sheet: cannot write standard output");
+    false
 }
 
-// The bytes of a text to standard output, or the line that says what is wrong to standard error.
-fn write_bytes(text: &[u8]) {
+// Prints the first bytes of a buffer; false where that fails.
+fn print_first(text: &[u8], count: usize) -> bool
+    requires { ⌜ count ≤ length (now text) ⌝ }
+{
+    print(&text[..count])
+}
+
+// Writes a line to standard error, after the program's name.
+fn tell(line: &[u8]) {
+    standard_io::write_text(libc::STDERR_FILENO, b"sheet: ");
+    standard_io::write_text(libc::STDERR_FILENO, line);
+}
+
+// Tells the first bytes of a buffer.
+fn tell_first(line: &[u8], count: usize)
+    requires { ⌜ count ≤ length (now line) ⌝ }
+{
+    tell(&line[..count]);
+}
+
+// The bytes of a text, or what is wrong with it.
+fn print_bytes(text: &[u8]) {
     let mut bytes = bytes_buffer();
     let parsed = notation::parse(text, &mut bytes);
     if let Parsed::Length(count) = parsed {
-        write_first(libc::STDOUT_FILENO, &bytes, count);
+        print_first(&bytes, count);
         return;
     }
     let mut line = line_buffer();
     let end = event_text::show_parse(&mut line, parsed);
-    write_first(libc::STDERR_FILENO, &line, end);
-}
-
-// Standard input in the notation.
-fn read_notation() {
-    let mut space = text_buffer();
-    let length = io::read_full(libc::STDIN_FILENO, &mut space);
-    write_bytes(&space[..length]);
+    tell_first(&line, end);
 }
 
 // The line of an event; false where it could not be written.
-fn show_event(count: u64, event: Event) -> bool {
+fn print_event(count: u64, event: Event) -> bool {
     let mut line = line_buffer();
     let end = event_text::show_event(&mut line, count, event);
-    write_first(libc::STDOUT_FILENO, &line, end)
+    print_first(&line, end)
 }
 
 // The line at bytes that are no event.
-fn write_refusal(count: u64, byte: u64, refusal: u8) {
+fn print_refusal(count: u64, byte: u64, refusal: u8) {
     let mut line = line_buffer();
     let end = event_text::show_refusal(&mut line, count, byte, refusal);
-    write_first(libc::STDOUT_FILENO, &line, end);
+    print_first(&line, end);
 }
 
-// What ends a sheet: nothing at its end, a line at bytes that are no event.
-fn write_last(count: u64, at: usize, reading: Reading) {
+// What ends a sheet: nothing at its end, and then it is whole; or a line at bytes that are no event.
+fn print_end(count: u64, at: usize, reading: Reading) -> bool {
     if let Reading::Refused(refusal) = reading {
-        write_refusal(count, at as u64, refusal);
+        print_refusal(count, at as u64, refusal);
+        return false;
     }
+    true
 }
 
-// A line an event, up to the sheet's end or to bytes that are no event.
-fn write_lines(sheet: &[u8]) {
+// A line an event, up to the sheet's end or to bytes that are no event; false at those. A line that could not be written ends it, too.
+fn print_events(sheet: &[u8]) -> bool {
     let mut at: usize = 0;
     let mut count: u64 = 0;
     loop {
         let reading = decode::read_event(sheet, Cursor { at });
         let Reading::Event { event, next } = reading else {
-            write_last(count, at, reading);
-            return;
+            return print_end(count, at, reading);
         };
-        if !show_event(count, event) {
-            return;
+        if !print_event(count, event) {
+            return true;
         }
         at = next.at;
         count += 1;
     }
 }
 
-// Standard input as a sheet. One byte more than the longest is read, to tell a longer one.
-fn read_sheet() {
-    let mut space = sheet_buffer();
-    let length = io::read_full(libc::STDIN_FILENO, &mut space);
-    if MOST_SHEET < length {
-        io::write_all(libc::STDERR_FILENO, b"sheet too long\n");
-        return;
+// The lines of a sheet; false where it has bytes that are no event, and nothing was told of it yet.
+fn show(sheet: &[u8]) -> bool {
+    if MOST_SHEET < sheet.len() {
+        tell(b"the sheet is longer than 65536 bytes\n");
+        return true;
     }
-    write_lines(&space[..length]);
+    if print_events(sheet) {
+        return true;
+    }
+    if notation::looks_like_notation(sheet) {
+        tell(b"this looks like notation: show the bytes that sheet makes of it\n");
+        return true;
+    }
+    false
+}
+
+// What is to be done with standard input.
+enum Task {
+    Bytes,
+    Show,
+}
+
+// Does it with the first bytes of a buffer; false as `show`.
+fn work_on(task: Task, space: &[u8], count: usize) -> bool
+    requires { ⌜ count ≤ length (now space) ⌝ }
+{
+    let text = &space[..count];
+    match task {
+        Task::Bytes => {
+            print_bytes(text);
+            true
+        }
+        Task::Show => show(text),
+    }
+}
+
+// Does it with standard input: one byte more than the longest text is read, to tell a longer one. False as `show`.
+// A function of this size with two callers is not inlined, so that its buffers are taken only after `main` has looked at the stack
+// (tests/programs).
+fn work(task: Task) -> bool {
+    let mut space = text_buffer();
+    let input = standard_io::read_input(&mut space);
+    let Input::Length(count) = input else {
+        os::fail(b"sheet: cannot read standard input");
+        return true;
+    };
+    work_on(task, &space, count)
 }
 
 // Whether the first argument is this word.
@@ -126,15 +177,31 @@ fn is_word(expected: &[u8]) -> bool {
     check::same(&word[..length], expected)
 }
 
-// What the one argument asks for: a sheet in words, or the version; false where it is another.
-fn is_asked() -> bool {
+// Whether there is stack enough for `work`.
+fn has_stack() -> bool {
+    standard_io::has_stack(b"sheet", NEEDED_STACK)
+}
+
+// Shows standard input.
+fn show_input() {
+    if !has_stack() {
+        return;
+    }
+    if !work(Task::Show) {
+        tell(b"the sheet has bytes that are no event\n");
+    }
+}
+
+// What the one argument asks for; false where it is no word that is known.
+fn is_done() -> bool {
     if is_word(b"show") {
-        read_sheet();
+        show_input();
         return true;
     }
     if is_word(b"version") {
         let line = version::line();
-        return io::write_all(libc::STDOUT_FILENO, &line);
+        print(&line);
+        return true;
     }
     false
 }
@@ -142,16 +209,15 @@ fn is_asked() -> bool {
 fn main() {
     let count = os::arg_count();
     if count < 2 {
-        read_notation();
+        if has_stack() {
+            work(Task::Bytes);
+        }
         return;
     }
     if count == 2 {
-        if is_asked() {
+        if is_done() {
             return;
         }
     }
-    io::write_all(
-        libc::STDERR_FILENO,
-        b"use: sheet < NOTATION > SHEET, sheet show < SHEET, or sheet version\n",
-    );
+    tell(b"use: sheet < NOTATION > SHEET, sheet show < SHEET, sheet version or sheet help\n");
 }

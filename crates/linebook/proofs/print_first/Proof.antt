@@ -5,8 +5,16 @@ use borrow.Author.Needs.{needs}
 use Rattle.linebook.proofs.print_first.Statement.{statement}
 use Rattle.linebook.proofs.print_first.Tie as tie
 
-slice-aggregate-write-all : tie.Need-slice-aggregate-write-all
-slice-aggregate-write-all c = sym (length-take-le _ _ (c .before .before .pre))
+slice-aggregate-write-text : tie.Need-slice-aggregate-write-text
+slice-aggregate-write-text c = sym (length-take-le _ _ (c .before .before .pre))
 
 pub print-first-spec : {M : Type 1} → statement M
-print-first-spec = tie.close (tie.spec slice-aggregate-write-all (λ c κs. search needs) (λ c. search needs))
+print-first-spec =
+    tie.close
+    (tie.spec
+    slice-aggregate-write-text
+    (λ c κs. search needs)
+    (λ c. search needs)
+    (λ c κs. search needs)
+    (λ c. search needs)
+    (λ c. search needs))

@@ -1,36 +1,18 @@
--- `print_run` stays within its buffers: the text fits, as the contract of `print_sheet` says.
-use Prim.Native.Nat.{ℕ, _≤_}
-use mathlib.Core.Path.{_≡_}
-use mathlib.Core.Bool.{true}
-use native.Mathlib.Omega.{arith}
-use Rattle.answer_text.specs.declared.Printed.{Printed}
-use Rattle.run.specs.Runs.{textFits}
-use borrow.Author.Tests.{leb-true}
+-- `print_run` lends a buffer that has room for the longest text, by a law and not by counting.
+use Prim.Native.Nat.{ℕ}
+use mathlib.Core.Path.{sym}
+use lib.ListN.{length-replicate}
 use borrow.Author.Needs.{needs}
+use Rattle.limits.specs.Limits.{mostSheet}
+use Rattle.run_text.specs.RunText.{mostText}
 use Rattle.linebook.proofs.print_run.Statement.{statement}
 use Rattle.linebook.proofs.print_run.Tie as tie
 
-within : (p : Printed) (n m : ℕ) → p ≡ Printed.Length n → textFits p m ≡ true → n ≤ m
-within p n m e f = leb-true n m (rw e at f)
+slice-aggregate-print-in : tie.Need-slice-aggregate-print-in
+slice-aggregate-print-in c = sym (length-replicate {0} {A = ℕ} (mostText mostSheet) 0)
 
-print-first-requires : tie.Need-print-first-requires
-print-first-requires c κs =
-    let p = c .before .before in
-    let r = p .before .before .before .before in
-    omega (arith, within _ _ _ (p .printed .given .1) (r .print-sheet .ensures .fits), r .before .before .before .text-buffer .ensures, r .print-sheet .kept .1 .1 .0)
+print-in-requires : tie.Need-print-in-requires
+print-in-requires c κs = sym (length-replicate {0} {A = ℕ} (mostText mostSheet) 0)
 
 pub print-run-spec : {M : Type 1} → statement M
-print-run-spec =
-    tie.close
-    (tie.spec
-    (λ c κs. search needs)
-    (λ c κs. search needs)
-    (λ c. search needs)
-    (λ c. search needs)
-    (λ c κs. search needs)
-    (λ c. search needs)
-    (λ c. search needs)
-    print-first-requires
-    (λ c. search needs)
-    (λ c. search needs)
-    (λ c. search needs))
+print-run-spec = tie.close (tie.spec slice-aggregate-print-in print-in-requires (λ c. search needs))

@@ -1,13 +1,13 @@
--- `write_bytes` is safe and ends: the bytes that it writes are within the buffer.
+-- `print_bytes` is safe and ends: the bytes that it writes are within the buffer.
 use mathlib.Core.Path.{sym, _∙_}
 use native.Mathlib.Omega.{arith}
 use Rattle.notation.proofs.Exits.{parsed-fits}
 use borrow.Author.Needs.{needs}
-use Rattle.sheet.proofs.write_bytes.Statement.{statement}
-use Rattle.sheet.proofs.write_bytes.Tie as tie
+use Rattle.sheet.proofs.print_bytes.Statement.{statement}
+use Rattle.sheet.proofs.print_bytes.Tie as tie
 
-write-first-requires : tie.Need-write-first-requires
-write-first-requires c κs =
+print-first-requires : tie.Need-print-first-requires
+print-first-requires c κs =
     let told = c .before .before in
     let parsed = told .before .before .before in
     let made = parsed .before .before in
@@ -18,8 +18,8 @@ write-first-requires c κs =
       made .bytes-buffer .ensures,
     )
 
-pub write-bytes-spec : {M : Type 1} → statement M
-write-bytes-spec =
+pub print-bytes-spec : {M : Type 1} → statement M
+print-bytes-spec =
     tie.close
     (tie.spec
     (λ c κs. search needs)
@@ -27,7 +27,7 @@ write-bytes-spec =
     (λ c κs. search needs)
     (λ c. search needs)
     (λ c. search needs)
-    write-first-requires
+    print-first-requires
     (λ c. search needs)
     (λ c κs. search needs)
     (λ c. search needs)

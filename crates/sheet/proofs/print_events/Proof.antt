@@ -1,12 +1,12 @@
--- `write_lines` is safe and ends: an event has two bytes at least, which the sheet has. The measure is what is left of the sheet.
+-- `print_events` is safe and ends: an event has two bytes at least, which the sheet has. The measure is what is left of the sheet.
 use Prim.Native.Nat.{_-_, _≤_}
 use mathlib.Core.Path.{sym, _∙_}
 use native.Mathlib.Omega.{arith}
 use lib.ListN.{length}
 use borrow.Author.Needs.{needs}
 use Rattle.event.proofs.Lengths.{reads}
-use Rattle.sheet.proofs.write_lines.Statement.{statement}
-use Rattle.sheet.proofs.write_lines.Tie as tie
+use Rattle.sheet.proofs.print_events.Statement.{statement}
+use Rattle.sheet.proofs.print_events.Tie as tie
 
 abbrev Inv-loop : tie.InvT-loop
 Inv-loop sheet at₀ count₀ at count = (count ≤ at) × (at ≤ length sheet)
@@ -44,8 +44,8 @@ loop-again c =
     let r = reads sheet (lp .at) (got .0 .0) (got .0 .1 .0) (sym (called .read-event .ensures) ∙ got .1) in
     (omega (arith, lp .inv .0, lp .inv .1, r .longer, r .within), r .within)
 
-pub write-lines-spec : {M : Type 1} → statement M
-write-lines-spec =
+pub print-events-spec : {M : Type 1} → statement M
+print-events-spec =
     tie.close
     (tie.spec
     Inv-loop

@@ -1,0 +1,2 @@
+-- What the contracts of standard input and output cite.
+pub mod Input
