@@ -21,8 +21,17 @@
  *   - While a call runs, no other thread writes to its `sheet` and none reads or writes its `book` and `text`.
  *
  * The functions keep no state from call to call, allocate nothing, and end on every sheet. Several threads can call
- * them at once, each with its own book and text; one sheet can be read by several. gudlemi_run takes some 6,000 bytes
- * of stack: a number read off the compiled code, which no proof bounds.
+ * them at once, each with its own book and text; one sheet can be read by several.
+ *
+ * Stack, in bytes, at most; measured on the stored sheets by tests/embed, and bounded by no proof:
+ *
+ *     gudlemi_run            10000
+ *     gudlemi_event_length     300
+ *     gudlemi_event_refusal    300
+ *     gudlemi_text_bound        16
+ *     gudlemi_version           16
+ *
+ * Where the loader looks for memcpy and memset only when they are first called, that call took 3,136 bytes more.
  */
 #ifndef GUDLEMI_H
 #define GUDLEMI_H
