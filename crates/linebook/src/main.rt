@@ -6,6 +6,8 @@ ghost use Rattle.limits.specs.Limits.{mostSheet};
 ghost use Rattle.run_text.specs.RunText.{mostText};
 use answer_text::MOST_LINE;
 use answer_text::Printed;
+use event::Cursor;
+use event::Reading;
 use limits::MOST_SHEET;
 use linebook_text::print_sheet;
 use run_text::MOST_LAST;
@@ -54,6 +56,34 @@ fn print_run(sheet: &[u8]) {
     print_in(sheet, &mut text);
 }
 
+// Whether what comes after the last event is the sheet's end.
+fn is_end(reading: Reading) -> bool {
+    if let Reading::Refused(_) = reading {
+        return false;
+    }
+    true
+}
+
+// Whether a sheet's bytes are events to its end.
+fn is_whole(sheet: &[u8]) -> bool {
+    let mut at: usize = 0;
+    loop {
+        let reading = decode::read_event(sheet, Cursor { at });
+        let Reading::Event { next, .. } = reading else {
+            return is_end(reading);
+        };
+        at = next.at;
+    }
+}
+
+// Whether a sheet is notation by mistake: it looks so, and no events are read from it to its end. A sheet that starts with the kind 09 or 0A may look so, too.
+fn is_notation(sheet: &[u8]) -> bool {
+    if notation::looks_like_notation(sheet) {
+        return !is_whole(sheet);
+    }
+    false
+}
+
 // Runs the first bytes of a buffer as a sheet, and says where they are none as a whole.
 fn run_first(space: &[u8], count: usize)
     requires { ⌜ count ≤ length (now space) ⌝ }
@@ -68,7 +98,7 @@ fn run_first(space: &[u8], count: usize)
     }
     let sheet = &space[..count];
     print_run(sheet);
-    if notation::looks_like_notation(sheet) {
+    if is_notation(sheet) {
         standard_io::write_text(
             libc::STDERR_FILENO,
             b"linebook: this looks like notation: run the bytes that the program sheet makes of it\n",
