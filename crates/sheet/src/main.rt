@@ -58,7 +58,7 @@ fn write_bytes(text: &[u8]) {
         return;
     }
     let mut line = line_buffer();
-    let end = event_text::show_parse(&mut line, parsed);
+    let end = notation_text::show_parse(&mut line, parsed);
     write_first(libc::STDERR_FILENO, &line, end);
 }
 
