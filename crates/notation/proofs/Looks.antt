@@ -9,7 +9,7 @@ use Rattle.lists.proofs.Tests.{by-test}
 use Rattle.notation.specs.Notation.{bytesFrom, characterStep, digitOf, faultFrom, faultOf, isFree, looksLikeNotation, notationBytes, opensNotation, pastMark, start}
 use Rattle.notation.specs.declared.Fault.{Fault}
 use Rattle.notation.proofs.Characters.{free-neither, same-both}
-use Rattle.notation.proofs.Pairs.{no-digit}
+use Rattle.notation.proofs.Pairs.{digit-clash}
 
 -- a sheet that opens its line does not: 01 is neither free nor a digit
 pub opened-looks-not : (rest : List ℕ) → looksLikeNotation (1 ∷ rest) ≡ false
@@ -25,7 +25,7 @@ opens (c ∷ cs) at e some =
     (λ free. by-test (eqb c 35)
     (λ t. rw (free, t))
     (λ hash. by-test (eqb (digitOf c) 16)
-    (λ t. no-digit at (rw (hash, free, t) at e))
+    (λ t. digit-clash at (rw (hash, free, t) at e))
     (λ d. rw (free, hash, d))))
 
 -- a text with no fault and with a byte does

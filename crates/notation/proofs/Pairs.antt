@@ -22,11 +22,12 @@ unfolding bytesFrom characterStep
 bytes-whole v [] = refl
 bytes-whole v (c ∷ cs) = refl
 
-pub no-digit : {X : Type 0} (at : ℕ) → Fault.NoDigit at ≡ Fault.None → X
-no-digit at e = let z : _≡_ {A = ℕ} 0 1 = cc in absurd (omega arith)
+-- a text with this fault is not without one
+pub digit-clash : {X : Type 0} (at : ℕ) → Fault.NoDigit at ≡ Fault.None → X
+digit-clash at e = let z : _≡_ {A = ℕ} 0 1 = cc in absurd (omega arith)
 
-no-second : {X : Type 0} (at : ℕ) → Fault.NoSecond at ≡ Fault.None → X
-no-second at e = let z : _≡_ {A = ℕ} 0 1 = cc in absurd (omega arith)
+second-clash : {X : Type 0} (at : ℕ) → Fault.NoSecond at ≡ Fault.None → X
+second-clash at e = let z : _≡_ {A = ℕ} 0 1 = cc in absurd (omega arith)
 
 two : (a b : ℕ) (xs ys : List ℕ) → b < 16 → xs ≡ ys → a ∷ b ∷ xs ≡ (a * 16 + b) / 16 ∷ (a * 16 + b) % 16 ∷ ys
 two a b xs ys h e =
@@ -47,16 +48,16 @@ mutual
       (λ hash. by-test (isFree c)
       (λ t. let neither = free-neither c t in rw (hash, t, neither .1) (between cs false (at + 1) (rw (hash, t) at e)))
       (λ free. by-test (eqb (digitOf c) 16)
-      (λ t. no-digit at (rw (hash, free, t) at e))
+      (λ t. digit-clash at (rw (hash, free, t) at e))
       (λ d. rw (hash, free, d) (after-first cs (digitOf c) d (at + 1) (rw (hash, free, d) at e)))))
 
   -- with the first digit of a byte before the text
   after-first : (text : List ℕ) (a : ℕ) → eqb a 16 ≡ false → (at : ℕ) → faultFrom at (passedOf false a) text ≡ Fault.None
       → a ∷ digitsFrom false text ≡ digitPairs (bytesFrom (passedOf false a) text)
-  after-first [] a some at e = no-second at (rw some at e)
+  after-first [] a some at e = second-clash at (rw some at e)
   after-first (c ∷ cs) a some at e =
       by-test (eqb (digitOf c) 16)
-      (λ t. no-second at (rw (some, t) at e))
+      (λ t. second-clash at (rw (some, t) at e))
       (λ d.
       let v = a * 16 + digitOf c in
       let rest = between cs false (at + 1) (rw (some, d, fault-whole v (at + 1) cs) at e) in

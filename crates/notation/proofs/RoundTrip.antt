@@ -12,7 +12,7 @@ use Rattle.lists.proofs.Tests.{and-left, and-right}
 use Rattle.lists.specs.Lists.{allPass}
 use Rattle.printout.specs.Print.{hexDigit}
 use Rattle.notation.specs.Notation.{bytesFrom, characterStep, faultFrom, isFree, leftOf, markLength, mostNotation, parsedOf, passedOf, start, whole}
-use Rattle.notation.specs.Written.{isByte, mark, written}
+use Rattle.notation.specs.Written.{byteOrderMark, isByte, written}
 use Rattle.notation.specs.declared.Fault.{Fault}
 use Rattle.notation.specs.declared.Parsed.{Parsed}
 use Rattle.notation.proofs.Characters.{Digit, free-neither, hex-digit, same-both, two-digits}
@@ -108,9 +108,9 @@ module _ (gap : List ℕ) (free : allPass isFree gap ≡ true) where
 
 -- a byte order mark before a text that has none changes nothing
 pub marked-parses : (text : List ℕ) → markLength text ≡ 0 → length text + 3 ≤ mostNotation → (out : List ℕ)
-    → (parsedOf (mark ++ text) (length out) ≡ parsedOf text (length out)) × (leftOf (mark ++ text) out ≡ leftOf text out)
+    → (parsedOf (byteOrderMark ++ text) (length out) ≡ parsedOf text (length out)) × (leftOf (byteOrderMark ++ text) out ≡ leftOf text out)
 marked-parses text none short out =
-    let all : length (mark ++ text) ≤ mostNotation = omega arith in
+    let all : length (byteOrderMark ++ text) ≤ mostNotation = omega arith in
     let few : length text ≤ mostNotation = omega arith in
-    let three : 3 ≤ length (mark ++ text) = omega arith in
-    rw (le-ltb mostNotation (length (mark ++ text)) all, le-ltb mostNotation (length text) few, le-ltb (length (mark ++ text)) 3 three, none) (refl, refl)
+    let three : 3 ≤ length (byteOrderMark ++ text) = omega arith in
+    rw (le-ltb mostNotation (length (byteOrderMark ++ text)) all, le-ltb mostNotation (length text) few, le-ltb (length (byteOrderMark ++ text)) 3 three, none) (refl, refl)

@@ -30,6 +30,5 @@ unfoldable pub written : List ℕ → List ℕ → List ℕ
 written gap [] = []
 written gap (b ∷ bs) = (hexIn 2 b ++ gap) ++ written gap bs
 
--- a byte order mark
-abbrev pub mark : List ℕ
-mark = 239 ∷ 187 ∷ 191 ∷ []
+abbrev pub byteOrderMark : List ℕ
+byteOrderMark = 239 ∷ 187 ∷ 191 ∷ []
