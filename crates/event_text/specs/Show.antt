@@ -1,4 +1,4 @@
--- Sheets in words, by the table of kinds: a line an event, or what is wrong. Not in document 01: the contract of event_text::show_event and the two beside it.
+-- Sheets in words, by the table of kinds: a line an event, or why bytes are none. Not in document 01: the contracts of event_text::show_event and event_text::show_refusal.
 use Prim.Native.Nat.{ℕ, _-_}
 use mathlib.Core.Bool.{cond}
 use mathlib.Core.List.{List, [], _∷_, _++_, map}
@@ -13,8 +13,6 @@ use Rattle.event.specs.declared.Event.{Event}
 use Rattle.number_text.specs.Stored.{Stored}
 use Rattle.printout.specs.Text.{ascii}
 use Rattle.printout.specs.Print.{decimal, hexIn, words}
-use Rattle.notation.specs.declared.Parsed.{Parsed}
-use Rattle.notation.specs.declared.Spot.{Spot}
 
 -- the longest line that a function here asks room for
 abbrev pub mostEventLine : ℕ
@@ -67,14 +65,3 @@ whyNoEvent k = cond (eqb k 2) (ascii "kind not listed") (ascii "body cut short")
 
 abbrev pub refusalLine : ℕ → ℕ → ℕ → List ℕ
 refusalLine number at k = words (decimal number ∷ ascii "at byte" ∷ (decimal at ++ ascii ":") ∷ whyNoEvent k ∷ [])
-
--- the line of a parse that failed; one that did not has none
-abbrev pub spotLine : Spot → List ℕ → List ℕ
-spotLine s expected = words (ascii "line" ∷ (decimal (s .line) ++ ascii ",") ∷ ascii "column" ∷ (decimal (s .column) ++ ascii ":") ∷ expected ∷ [])
-
-unfoldable pub parseLine : Parsed → List ℕ
-parseLine (Parsed.Length n) = []
-parseLine (Parsed.NoDigit s) = spotLine s (ascii "expected a hexadecimal digit")
-parseLine (Parsed.NoSecond s) = spotLine s (ascii "expected one hexadecimal digit more: the text has an odd number of them")
-parseLine Parsed.TooLong = words (ascii "the text is longer than 1048576 bytes" ∷ [])
-parseLine Parsed.TooShort = words (ascii "the bytes do not fit the buffer" ∷ [])

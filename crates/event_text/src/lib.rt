@@ -1,8 +1,6 @@
-// Sheets in words, stored in a lent buffer: a line an event, and the line that says what is wrong.
+// Sheets in words, stored in a lent buffer: a line an event, and the line at bytes that are none.
 use event::Blocks;
 use event::Event;
-use notation::Parsed;
-use notation::Spot;
 use view::Block;
 use word_text::BLANK;
 use word_text::LINE_END;
@@ -17,7 +15,7 @@ ghost use Rattle.event.specs.Event.{fieldsOf};
 ghost use Rattle.printout.specs.Text.{ascii};
 ghost use Rattle.printout.specs.Print.{decimal, hexIn, words};
 ghost use Rattle.number_text.specs.Stored.{Stored};
-ghost use Rattle.event_text.specs.Show.{StoredTwo, blockText, blockWords, eventLine, eventWords, mostEventLine, mostWords, parseLine, whyNoEvent, refusalLine, signedText, spotLine};
+ghost use Rattle.event_text.specs.Show.{StoredTwo, blockText, blockWords, eventLine, eventWords, mostEventLine, mostWords, whyNoEvent, refusalLine, signedText};
 
 // A word and the byte after it. All functions here return the index after what they stored.
 fn word(out: &mut [u8], at: usize, text: &[u8], after: u8) -> usize
@@ -264,36 +262,4 @@ pub fn show_refusal(out: &mut [u8], count: u64, byte: u64, refusal: u8) -> usize
     let then = word(out, next, b"at byte", BLANK);
     let last = put_marked(out, then, byte, b':');
     put_reason(out, last, refusal)
-}
-
-// A spot and what was expected there.
-fn put_spot(out: &mut [u8], spot: Spot, expected: &[u8]) -> usize
-    requires { ⌜ length (now expected) + 100 ≤ length (now out) ⌝ }
-    ensures { λ r. ⌜ Stored (spotLine spot (now (expected .entry))) (now (out .entry)) 0 (now (out .exit)) r × (r ≤ length (now (out .entry))) ⌝ }
-{
-    let to1 = word(out, 0, b"line", BLANK);
-    let to2 = put_marked(out, to1, spot.line, b',');
-    let to3 = word(out, to2, b"column", BLANK);
-    let to4 = put_marked(out, to3, spot.column, b':');
-    word(out, to4, expected, LINE_END)
-}
-
-// The line of a parse that failed; one that did not has none.
-pub fn show_parse(out: &mut [u8], parsed: Parsed) -> usize
-    requires { ⌜ mostEventLine ≤ length (now out) ⌝ }
-    ensures { λ r. ⌜ Stored (parseLine parsed) (now (out .entry)) 0 (now (out .exit)) r × (r ≤ length (now (out .entry))) ⌝ }
-{
-    match parsed {
-        Parsed::Length(_) => 0,
-        Parsed::NoDigit(spot) => put_spot(out, spot, b"expected a hexadecimal digit"),
-        Parsed::NoSecond(spot) => {
-            put_spot(
-                out,
-                spot,
-                b"expected one hexadecimal digit more: the text has an odd number of them",
-            )
-        }
-        Parsed::TooLong => word(out, 0, b"the text is longer than 1048576 bytes", LINE_END),
-        Parsed::TooShort => word(out, 0, b"the bytes do not fit the buffer", LINE_END),
-    }
 }

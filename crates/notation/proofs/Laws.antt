@@ -7,7 +7,7 @@ use lib.ListN.{drop, getD, length, length-append}
 use borrow.Author.Tests.{eq-eqb, ne-eqb}
 use Rattle.lists.proofs.Loops.{drop-end}
 use Rattle.lists.proofs.Parts.{drop-more}
-use Rattle.notation.specs.Notation.{beginsNotation, bytesFrom, faultFrom, isFree, madeOf, opensNotation, spotFrom, spotPast, characterStep}
+use Rattle.notation.specs.Notation.{beginsNotation, bytesFrom, faultFrom, isFree, madeOf, missingAt, opensNotation, spotFrom, spotPast, characterStep}
 use Rattle.notation.specs.declared.Fault.{Fault}
 use Rattle.notation.specs.declared.Spot.{Spot}
 use Rattle.notation.specs.declared.State.{State}
@@ -21,7 +21,7 @@ module _ (s : State) (l : List ℕ) (i : ℕ) where
   unfolding faultFrom
   fault-none h e = rw (drop-end l i h, eq-eqb (s .high) 16 e)
 
-  pub fault-second : length l ≤ i → (s .high ≡ 16 → ⊥) → faultFrom i s (drop i l) ≡ Fault.NoSecond
+  pub fault-second : length l ≤ i → (s .high ≡ 16 → ⊥) → faultFrom i s (drop i l) ≡ Fault.NoSecond i
   unfolding faultFrom
   fault-second h ne = rw (drop-end l i h, ne-eqb (s .high) 16 ne)
 
@@ -39,19 +39,20 @@ module _ (s : State) (l : List ℕ) (i : ℕ) (h : i < length l) (r : State) (e 
   pub length-more : length (bytesFrom s (drop i l)) ≡ length (madeOf r) + length (bytesFrom r (drop (i + 1) l))
   length-more = ap length bytes-more ∙ length-append (madeOf r) (bytesFrom r (drop (i + 1) l))
 
-  pub fault-here : r .bad ≡ true → faultFrom i s (drop i l) ≡ Fault.NoDigit i
+  pub fault-here : r .bad ≡ true → faultFrom i s (drop i l) ≡ missingAt s i
   unfolding faultFrom
   fault-here t = let bad : characterStep s (getD l i 0) .bad ≡ true = sym (ap (λ (x : State). x .bad) e) ∙ t in rw (drop-more l i 0 h, bad)
 
   pub fault-more : r .bad ≡ false → faultFrom i s (drop i l) ≡ faultFrom (i + 1) r (drop (i + 1) l)
   fault-more f = fault-next s l i h (sym (ap (λ (x : State). x .bad) e) ∙ f) ∙ ap (λ (x : State). faultFrom (i + 1) x (drop (i + 1) l)) (sym e)
 
-module _ (s : Spot) (l : List ℕ) (i : ℕ) where
-  pub spot-end : length l ≤ i → spotFrom s (drop i l) ≡ s
+module _ (s : Spot) (previous : ℕ) (l : List ℕ) (i : ℕ) where
+  pub spot-end : length l ≤ i → spotFrom s previous (drop i l) ≡ s
   unfolding spotFrom
   spot-end h = rw (drop-end l i h)
 
-  pub spot-more : i < length l → (r : Spot) → r ≡ spotPast s (getD l i 0) → spotFrom s (drop i l) ≡ spotFrom r (drop (i + 1) l)
+  pub spot-more : i < length l → (r : Spot) → r ≡ spotPast s previous (getD l i 0)
+      → spotFrom s previous (drop i l) ≡ spotFrom r (getD l i 0) (drop (i + 1) l)
   unfolding spotFrom
   spot-more h r e = rw (drop-more l i 0 h, e)
 

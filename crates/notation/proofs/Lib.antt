@@ -1,5 +1,7 @@
 -- The laws of the notation.
-pub mod Steps
 pub mod Laws
 pub mod Exits
+pub mod Characters
+pub mod Pairs
+pub mod RoundTrip
 pub mod Looks

@@ -1,2 +1,3 @@
 -- The papers' notation for sheets.
 pub mod Notation
+pub mod Written

@@ -1,9 +1,9 @@
-// The notation of the papers, read: hexadecimal digits in pairs, free characters between them, and comments from # to the line's end.
+// The notation of the papers, read: pairs of hexadecimal digits, free characters between them, and comments from # to the line's end.
 ghost use Prim.Native.Nat.{_+_, _≤_, _<_};
 ghost use mathlib.Core.Path.{_≡_};
 ghost use lib.ListN.{length};
 ghost use Rattle.number_text.specs.Stored.{Stored};
-ghost use Rattle.notation.specs.Notation.{beginsNotation, notationBytes, digitOf, faultAt, faultOf, isFree, isLineEnd, leftOf, looksLikeNotation, markLength, madeOf, mostNotation, parsedOf, passedOf, spotOf, spotPast, characterStep, storedOf, storedTo};
+ghost use Rattle.notation.specs.Notation.{beginsNotation, betweenStep, notationBytes, digitOf, faultOf, foundAt, isFree, isLineEnd, leftOf, leftPast, looksLikeNotation, madeOf, markLength, missingAt, mostNotation, parsedOf, parsedPast, passedOf, secondStep, spotOf, spotPast, characterStep, storedOf, storedTo};
 
 // The longest text.
 pub const MOST_NOTATION: usize = 1048576;
@@ -30,13 +30,28 @@ impl State {
         value: 0,
         bad: false,
     };
+
+    // After a character that may not stand there.
+    pub const BAD: State = State {
+        comment: false,
+        high: NONE,
+        made: false,
+        value: 0,
+        bad: true,
+    };
 }
 
-// What is wrong in a text first: a character that is no digit, by its index, or an end after half a byte.
+// What is wrong in a text first: no digit, or no second digit after a byte's first, by the index of what stands there instead.
 pub enum Fault {
     NoDigit(usize),
-    NoSecond,
+    NoSecond(usize),
     None,
+}
+
+// What stands at an index of a text.
+pub enum Found {
+    Byte(u8),
+    End,
 }
 
 // A line and a column of a text, both from 1.
@@ -45,12 +60,12 @@ pub struct Spot {
     pub column: u64,
 }
 
-// What a parse answers: the number of bytes stored, where a digit or a second digit is missing,
-// a text of more than MOST_NOTATION bytes, or a buffer too short for the bytes.
+// What a parse answers: the number of bytes stored; where a digit or a second digit is missing, and what was found there;
+// a text of more than MOST_NOTATION bytes; or a buffer too short for the bytes.
 pub enum Parsed {
     Length(usize),
-    NoDigit(Spot),
-    NoSecond(Spot),
+    NoDigit(Spot, u8),
+    NoSecond(Spot, Found),
     TooLong,
     TooShort,
 }
@@ -132,7 +147,7 @@ fn begins_notation(c: u8) -> bool
     if c == b'#' {
         return true;
     }
-    digit(c) < NONE
+    digit(c) != NONE
 }
 
 // Whether bytes look like notation and not like a sheet: past a mark, the first that is not free is a digit or a #.
@@ -162,55 +177,75 @@ fn passed(comment: bool, high: u8) -> State
     }
 }
 
-// The state after a character.
-fn step(s: State, c: u8) -> State
-    requires { ⌜ s .high ≤ 16 ⌝ }
-    ensures { λ r. ⌜ (r ≡ characterStep s c) × (r .high ≤ 16) ⌝ }
+// The state after a character between bytes. A line end ends a comment.
+fn step_between(comment: bool, c: u8) -> State
+    ensures { λ r. ⌜ (r ≡ betweenStep comment c) × (r .high ≤ 16) ⌝ }
 {
-    if c == b'\n' {
-        return passed(false, s.high);
-    }
-    if s.comment {
-        return passed(true, s.high);
+    if comment {
+        return passed(!is_line_end(c), NONE);
     }
     if c == b'#' {
-        return passed(true, s.high);
+        return passed(true, NONE);
     }
     if is_free(c) {
-        return passed(false, s.high);
+        return passed(false, NONE);
     }
     let d = digit(c);
     if d == NONE {
-        return State {
-            comment: false,
-            high: s.high,
-            made: false,
-            value: 0,
-            bad: true,
-        };
+        return State::BAD;
     }
-    if s.high == NONE {
-        return passed(false, d);
+    passed(false, d)
+}
+
+// The state after a character that follows the first digit of a byte: only the second may stand there.
+fn step_second(high: u8, c: u8) -> State
+    requires { ⌜ high < 16 ⌝ }
+    ensures { λ r. ⌜ (r ≡ secondStep high c) × (r .high ≤ 16) ⌝ }
+{
+    let d = digit(c);
+    if d == NONE {
+        return State::BAD;
     }
     State {
         comment: false,
         high: NONE,
         made: true,
-        value: s.high * 16 + d,
+        value: high * 16 + d,
         bad: false,
     }
 }
 
+// The state after a character.
+fn step(s: State, c: u8) -> State
+    requires { ⌜ s .high ≤ 16 ⌝ }
+    ensures { λ r. ⌜ (r ≡ characterStep s c) × (r .high ≤ 16) ⌝ }
+{
+    if s.high == NONE {
+        return step_between(s.comment, c);
+    }
+    step_second(s.high, c)
+}
+
+// What is missing at the index of a bad character, by the state before it.
+fn missing_at(s: State, at: usize) -> Fault
+    ensures { λ r. ⌜ r ≡ missingAt s at ⌝ }
+{
+    if s.high == NONE {
+        return Fault::NoDigit(at);
+    }
+    Fault::NoSecond(at)
+}
+
 // The first fault of a text.
 fn find_fault(text: &[u8]) -> Fault
-    ensures { λ r. ⌜ (r ≡ faultOf (now (text .entry))) × (faultAt r ≤ length (now (text .entry))) ⌝ }
+    ensures { λ r. ⌜ r ≡ faultOf (now (text .entry)) ⌝ }
 {
     let mut state = State::START;
     let mut i: usize = 0;
     while i < text.len() {
         let next = step(state, text[i]);
         if next.bad {
-            return Fault::NoDigit(i);
+            return missing_at(state, i);
         }
         state = next;
         i += 1;
@@ -218,7 +253,17 @@ fn find_fault(text: &[u8]) -> Fault
     if state.high == NONE {
         return Fault::None;
     }
-    Fault::NoSecond
+    Fault::NoSecond(i)
+}
+
+// What stands at an index of a text, or its end.
+fn found_at(text: &[u8], at: usize) -> Found
+    ensures { λ r. ⌜ r ≡ foundAt (now (text .entry)) at ⌝ }
+{
+    if at < text.len() {
+        return Found::Byte(text[at]);
+    }
+    Found::End
 }
 
 // A count, and one more where the state has a byte.
@@ -276,12 +321,21 @@ fn put_bytes(text: &[u8], out: &mut [u8]) -> usize
     end
 }
 
-// The spot after a character at a spot.
-fn spot_past(spot: Spot, c: u8) -> Spot
+// The spot after a character at a spot, by the character before it. The LF after a CR is part of one line end.
+fn spot_past(spot: Spot, previous: u8, c: u8) -> Spot
     requires { ⌜ (spot .line ≤ mostNotation) × (spot .column ≤ mostNotation) ⌝ }
-    ensures { λ r. ⌜ (r ≡ spotPast spot c) × (r .line ≤ spot .line + 1) × (r .column ≤ spot .column + 1) ⌝ }
+    ensures { λ r. ⌜ (r ≡ spotPast spot previous c) × (r .line ≤ spot .line + 1) × (r .column ≤ spot .column + 1) ⌝ }
 {
+    if c == b'\r' {
+        return Spot {
+            line: spot.line + 1,
+            column: 1,
+        };
+    }
     if c == b'\n' {
+        if previous == b'\r' {
+            return spot;
+        }
         return Spot {
             line: spot.line + 1,
             column: 1,
@@ -299,9 +353,12 @@ fn spot_after(text: &[u8]) -> Spot
     ensures { λ r. ⌜ r ≡ spotOf (now (text .entry)) ⌝ }
 {
     let mut spot = Spot { line: 1, column: 1 };
+    let mut previous: u8 = 0;
     let mut i: usize = 0;
     while i < text.len() {
-        spot = spot_past(spot, text[i]);
+        let c = text[i];
+        spot = spot_past(spot, previous, c);
+        previous = c;
         i += 1;
     }
     spot
@@ -318,17 +375,27 @@ fn store(text: &[u8], out: &mut [u8]) -> Parsed
     Parsed::Length(put_bytes(text, out))
 }
 
+// The parse of a text past its mark.
+fn parse_past(text: &[u8], out: &mut [u8]) -> Parsed
+    requires { ⌜ length (now text) ≤ mostNotation ⌝ }
+    ensures { λ r. ⌜ (r ≡ parsedPast (now (text .entry)) (length (now (out .entry)))) × (now (out .exit) ≡ leftPast (now (text .entry)) (now (out .entry))) ⌝ }
+{
+    let fault = find_fault(text);
+    match fault {
+        Fault::NoDigit(at) => Parsed::NoDigit(spot_after(&text[..at]), text[at]),
+        Fault::NoSecond(at) => Parsed::NoSecond(spot_after(&text[..at]), found_at(text, at)),
+        Fault::None => store(text, out),
+    }
+}
+
 // The bytes of a text, stored from the buffer's start on, and how many they are; or what is wrong, and the buffer as it was.
+// A byte order mark at the start is skipped.
 pub fn parse(text: &[u8], out: &mut [u8]) -> Parsed
     ensures { λ r. ⌜ (r ≡ parsedOf (now (text .entry)) (length (now (out .entry)))) × (now (out .exit) ≡ leftOf (now (text .entry)) (now (out .entry))) ⌝ }
 {
     if MOST_NOTATION < text.len() {
         return Parsed::TooLong;
     }
-    let fault = find_fault(text);
-    match fault {
-        Fault::NoDigit(at) => Parsed::NoDigit(spot_after(&text[..at])),
-        Fault::NoSecond => Parsed::NoSecond(spot_after(text)),
-        Fault::None => store(text, out),
-    }
+    let start = mark_length(text);
+    parse_past(&text[start..], out)
 }

@@ -63,7 +63,7 @@ pub fn put_decimal(out: &mut [u8], at: usize, n: u64) -> usize
 
 // A hexadecimal digit, in lowercase: a letter stands 39 past where the digits would go on.
 // By arithmetic and not by a match, so that the compiler makes sixteen of them in vector operations.
-fn hex_digit(d: u64) -> u8
+pub fn hex_digit(d: u64) -> u8
     requires { ⌜ d < 16 ⌝ }
     ensures { λ r. ⌜ r ≡ hexDigit d ⌝ }
 {

@@ -77,7 +77,7 @@ fn print_bytes(text: &[u8]) {
         return;
     }
     let mut line = line_buffer();
-    let end = event_text::show_parse(&mut line, parsed);
+    let end = notation_text::show_parse(&mut line, parsed);
     tell_first(&line, end);
 }
 

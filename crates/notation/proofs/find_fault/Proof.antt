@@ -23,10 +23,11 @@ step-requires c κs = c .before .before .loop .inv .1
 
 returns : tie.Need-returns Inv-loop μ-loop
 returns c =
-    let lp = c .before .before .before .before .loop in
-    let text = c .before .before .before .before .before .before .args .text .now in
-    let here = fault-here (lp .state) text (lp .i) (c .before .before .before .loop-test .taken) _ (c .before .step .ensures .0) (c .if1 .taken) in
-    (sym here ∙ lp .inv .0, omega arith)
+    let called = c .before .before in
+    let lp = called .before .before .before .loop in
+    let text = called .before .before .before .before .before .args .text .now in
+    let here = fault-here (lp .state) text (lp .i) (called .before .before .loop-test .taken) _ (called .step .ensures .0) (c .before .if1 .taken) in
+    c .missing-at .ensures ∙ sym here ∙ lp .inv .0
 
 loop-again : tie.Need-loop-again Inv-loop μ-loop
 loop-again c =
@@ -39,13 +40,13 @@ returns-2 : tie.Need-returns-2 Inv-loop μ-loop
 returns-2 c =
     let lp = c .before .before .before .loop in
     let text = c .before .before .before .before .before .args .text .now in
-    (sym (fault-none (lp .state) text (lp .i) (c .before .before .loop-test .left) (c .if2 .taken)) ∙ lp .inv .0, omega arith)
+    sym (fault-none (lp .state) text (lp .i) (c .before .before .loop-test .left) (c .if2 .taken)) ∙ lp .inv .0
 
 returns-3 : tie.Need-returns-3 Inv-loop μ-loop
 returns-3 c =
     let lp = c .before .before .before .loop in
     let text = c .before .before .before .before .before .args .text .now in
-    (sym (fault-second (lp .state) text (lp .i) (c .before .before .loop-test .left) (c .if2 .left)) ∙ lp .inv .0, omega arith)
+    sym (fault-second (lp .state) text (lp .i) (c .before .before .loop-test .left) (c .if2 .left)) ∙ lp .inv .0
 
 pub find-fault-spec : {M : Type 1} → statement M
 find-fault-spec =
@@ -56,6 +57,7 @@ find-fault-spec =
     loop-holds
     (λ c. search needs)
     step-requires
+    (λ c κs. search needs)
     returns
     (λ c. search needs)
     (λ c. search needs)

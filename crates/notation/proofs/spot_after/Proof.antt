@@ -10,14 +10,14 @@ use Rattle.notation.proofs.spot_after.Statement.{statement}
 use Rattle.notation.proofs.spot_after.Tie as tie
 
 abbrev Inv-loop : tie.InvT-loop
-Inv-loop text spot₀ i₀ spot i =
-    (spotFrom spot (drop i text) ≡ spotOf text)
+Inv-loop text spot₀ previous₀ i₀ spot previous i =
+    (spotFrom spot previous (drop i text) ≡ spotOf text)
     × (spot .line ≤ i + 1)
     × (spot .column ≤ i + 1)
     × (i ≤ length text)
 
 abbrev μ-loop : tie.MeasureT-loop
-μ-loop text spot₀ i₀ spot i = length text - i
+μ-loop text spot₀ previous₀ i₀ spot previous i = length text - i
 
 loop-holds : tie.Need-loop-holds Inv-loop μ-loop
 loop-holds c = (refl, omega arith, omega arith, omega arith)
@@ -25,14 +25,14 @@ loop-holds c = (refl, omega arith, omega arith, omega arith)
 spot-past-requires : tie.Need-spot-past-requires Inv-loop μ-loop
 spot-past-requires c κs =
     let lp = c .before .before .loop in
-    let lanes-fit = c .before .before .before .before .pre in
-    (omega (arith, lp .inv .1, c .before .loop-test .taken, lanes-fit), omega (arith, lp .inv .2, c .before .loop-test .taken, lanes-fit))
+    let short = c .before .before .before .before .pre in
+    (omega (arith, lp .inv .1, c .before .loop-test .taken, short), omega (arith, lp .inv .2, c .before .loop-test .taken, short))
 
 loop-again : tie.Need-loop-again Inv-loop μ-loop
 loop-again c =
     let lp = c .before .before .before .loop in
     let text = c .before .before .before .before .before .args .text .now in
-    let more = spot-more (lp .spot) text (lp .i) (c .before .before .loop-test .taken) _ (c .spot-past .ensures .0) in (
+    let more = spot-more (lp .spot) (lp .previous) text (lp .i) (c .before .before .loop-test .taken) _ (c .spot-past .ensures .0) in (
       sym more ∙ lp .inv .0,
       omega (arith, lp .inv .1, c .spot-past .ensures .1),
       omega (arith, lp .inv .2, c .spot-past .ensures .2),
@@ -43,7 +43,7 @@ returns : tie.Need-returns Inv-loop μ-loop
 returns c =
     let lp = c .before .loop in
     let text = c .before .before .before .args .text .now in
-    sym (spot-end (lp .spot) text (lp .i) (c .loop-test .left)) ∙ lp .inv .0
+    sym (spot-end (lp .spot) (lp .previous) text (lp .i) (c .loop-test .left)) ∙ lp .inv .0
 
 pub spot-after-spec : {M : Type 1} → statement M
 spot-after-spec =

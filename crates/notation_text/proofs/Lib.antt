@@ -1,0 +1,2 @@
+-- The laws of messages.
+pub mod Places

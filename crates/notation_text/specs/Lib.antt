@@ -1,0 +1,2 @@
+-- What is said of notation that is refused.
+pub mod Message
