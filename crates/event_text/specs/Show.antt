@@ -3,7 +3,7 @@ use Prim.Native.Nat.{ℕ, _-_}
 use mathlib.Core.Bool.{cond}
 use mathlib.Core.List.{List, [], _∷_, _++_, map}
 use lib.Dec.{eqb, ltb}
-use lib.ListN.{getD}
+use lib.ListN.{getD, length, replicate}
 use Rattle.view.specs.View.{block}
 use Rattle.view.specs.declared.Block.{Block}
 use Rattle.event.specs.Kinds.{Field, Form, blockLength, blockStart, inHex, kindAt, plain, withSign}
@@ -20,7 +20,7 @@ mostEventLine = 640
 
 -- the longest line of an event from its kind's word on: a view's three names with a number of 20 digits each, and eight blocks
 abbrev pub mostWords : ℕ
-mostWords = 463
+mostWords = 466
 
 -- two texts stored one after the other, as `Stored` says it of one
 pub record StoredTwo (xs ys before : List ℕ) (at : ℕ) (after : List ℕ) (answer : ℕ) : Type 0 where
@@ -51,9 +51,13 @@ fieldsWords [] vs = []
 fieldsWords (f ∷ fs) [] = []
 fieldsWords (f ∷ fs) (v ∷ vs) = fieldWords (f .form) (ascii (f .name)) v vs (fieldsWords fs vs)
 
+-- a kind's word, with blanks to the width of the longest, `receive`
+abbrev pub kindWord : List ℕ → List ℕ
+kindWord w = w ++ replicate (7 - length w) 32
+
 -- the kind's word and the fields, in the body's order
 unfoldable pub eventWords : Event → List (List ℕ)
-eventWords e = ascii (kindAt (kindOf e) .word) ∷ fieldsWords (kindAt (kindOf e) .fields) (fieldsOf e)
+eventWords e = kindWord (ascii (kindAt (kindOf e) .word)) ∷ fieldsWords (kindAt (kindOf e) .fields) (fieldsOf e)
 
 -- the event's number from 0, then its words
 abbrev pub eventLine : ℕ → Event → List ℕ

@@ -62,7 +62,7 @@ fn named(out: &mut [u8], at: usize, name: &[u8], n: u64, after: u8) -> usize
 // Two named numbers, to the line's end.
 fn put_fields(out: &mut [u8], at: usize, first: &[u8], a: u8, second: &[u8], b: u64) -> usize
     requires { ⌜ at + length (now first) + length (now second) + 44 ≤ length (now out) ⌝ }
-    ensures { λ r. ⌜ Stored (words (now (first .entry) ∷ decimal a ∷ now (second .entry) ∷ decimal b ∷ [])) (now (out .entry)) at (now (out .exit)) r × (r ≤ length (now (out .entry))) ⌝ }
+    ensures { λ r. ⌜ Stored (words (now (first .entry) ∷ decimal a ∷ now (second .entry) ∷ decimal b ∷ [])) (now (out .entry)) at (now (out .exit)) r × (r ≤ at + length (now (first .entry)) + length (now (second .entry)) + 44) ⌝ }
 {
     let next = named(out, at, first, a as u64, BLANK);
     named(out, next, second, b, LINE_END)
@@ -71,18 +71,18 @@ fn put_fields(out: &mut [u8], at: usize, first: &[u8], a: u8, second: &[u8], b: 
 // 05 write: a lane and a record.
 fn put_write(out: &mut [u8], at: usize, lane: u8, content: u64) -> usize
     requires { ⌜ at + mostWords ≤ length (now out) ⌝ }
-    ensures { λ r. ⌜ Stored (words (ascii "write lane" ∷ decimal lane ∷ ascii "record" ∷ hexIn 16 content ∷ [])) (now (out .entry)) at (now (out .exit)) r × (r ≤ length (now (out .entry))) ⌝ }
+    ensures { λ r. ⌜ Stored (words (ascii "write   lane" ∷ decimal lane ∷ ascii "record" ∷ hexIn 16 content ∷ [])) (now (out .entry)) at (now (out .exit)) r × (r ≤ at + mostWords) ⌝ }
 {
-    let next = named(out, at, b"write lane", lane as u64, BLANK);
+    let next = named(out, at, b"write   lane", lane as u64, BLANK);
     recorded(out, next, content)
 }
 
 // 07 put: a lane, a place and a record.
 fn put_put(out: &mut [u8], at: usize, lane: u8, place: u32, content: u64) -> usize
     requires { ⌜ at + mostWords ≤ length (now out) ⌝ }
-    ensures { λ r. ⌜ Stored (words (ascii "put lane" ∷ decimal lane ∷ ascii "place" ∷ decimal place ∷ ascii "record" ∷ hexIn 16 content ∷ [])) (now (out .entry)) at (now (out .exit)) r × (r ≤ length (now (out .entry))) ⌝ }
+    ensures { λ r. ⌜ Stored (words (ascii "put     lane" ∷ decimal lane ∷ ascii "place" ∷ decimal place ∷ ascii "record" ∷ hexIn 16 content ∷ [])) (now (out .entry)) at (now (out .exit)) r × (r ≤ at + mostWords) ⌝ }
 {
-    let next = named(out, at, b"put lane", lane as u64, BLANK);
+    let next = named(out, at, b"put     lane", lane as u64, BLANK);
     let then = named(out, next, b"place", place as u64, BLANK);
     recorded(out, then, content)
 }
@@ -137,9 +137,9 @@ fn put_view(
     blocks: Blocks,
 ) -> usize
     requires { ⌜ at + mostWords ≤ length (now out) ⌝ }
-    ensures { λ r. ⌜ Stored (words (ascii "view displacement" ∷ decimal displacement ∷ ascii "extent" ∷ decimal extent ∷ ascii "blocks" ∷ decimal used ∷ blockWords blocks)) (now (out .entry)) at (now (out .exit)) r × (r ≤ length (now (out .entry))) ⌝ }
+    ensures { λ r. ⌜ Stored (words (ascii "view    displacement" ∷ decimal displacement ∷ ascii "extent" ∷ decimal extent ∷ ascii "blocks" ∷ decimal used ∷ blockWords blocks)) (now (out .entry)) at (now (out .exit)) r × (r ≤ at + mostWords) ⌝ }
 {
-    let to1 = named(out, at, b"view displacement", displacement as u64, BLANK);
+    let to1 = named(out, at, b"view    displacement", displacement as u64, BLANK);
     let to2 = named(out, to1, b"extent", extent as u64, BLANK);
     let to3 = named(out, to2, b"blocks", used as u64, BLANK);
     put_blocks(out, to3, blocks)
@@ -160,9 +160,9 @@ fn put_signed(out: &mut [u8], at: usize, n: u32, after: u8) -> usize
 // 0C seek: a whence and a signed offset.
 fn put_seek(out: &mut [u8], at: usize, whence: u8, offset: u32) -> usize
     requires { ⌜ at + mostWords ≤ length (now out) ⌝ }
-    ensures { λ r. ⌜ Stored (words (ascii "seek whence" ∷ decimal whence ∷ ascii "offset" ∷ signedText offset ∷ [])) (now (out .entry)) at (now (out .exit)) r × (r ≤ length (now (out .entry))) ⌝ }
+    ensures { λ r. ⌜ Stored (words (ascii "seek    whence" ∷ decimal whence ∷ ascii "offset" ∷ signedText offset ∷ [])) (now (out .entry)) at (now (out .exit)) r × (r ≤ at + mostWords) ⌝ }
 {
-    let next = named(out, at, b"seek whence", whence as u64, BLANK);
+    let next = named(out, at, b"seek    whence", whence as u64, BLANK);
     let then = word(out, next, b"offset", BLANK);
     put_signed(out, then, offset, LINE_END)
 }
@@ -170,12 +170,12 @@ fn put_seek(out: &mut [u8], at: usize, whence: u8, offset: u32) -> usize
 // An event with a lane alone, or one of an unlisted kind.
 fn put_short(out: &mut [u8], at: usize, event: Event) -> usize
     requires { ⌜ (at + mostWords ≤ length (now out)) × (length (fieldsOf event) ≤ 1) ⌝ }
-    ensures { λ r. ⌜ Stored (words (eventWords event)) (now (out .entry)) at (now (out .exit)) r × (r ≤ length (now (out .entry))) ⌝ }
+    ensures { λ r. ⌜ Stored (words (eventWords event)) (now (out .entry)) at (now (out .exit)) r × (r ≤ at + mostWords) ⌝ }
 {
     match event {
         Event::Receive { lane } => named(out, at, b"receive lane", lane as u64, LINE_END),
-        Event::Read { lane } => named(out, at, b"read lane", lane as u64, LINE_END),
-        Event::Free { lane } => named(out, at, b"free lane", lane as u64, LINE_END),
+        Event::Read { lane } => named(out, at, b"read    lane", lane as u64, LINE_END),
+        Event::Free { lane } => named(out, at, b"free    lane", lane as u64, LINE_END),
         _ => word(out, at, b"unlisted", LINE_END),
     }
 }
@@ -183,24 +183,24 @@ fn put_short(out: &mut [u8], at: usize, event: Event) -> usize
 // An event of at most two fields.
 fn put_pair(out: &mut [u8], at: usize, event: Event) -> usize
     requires { ⌜ (at + mostWords ≤ length (now out)) × (length (fieldsOf event) ≤ 2) ⌝ }
-    ensures { λ r. ⌜ Stored (words (eventWords event)) (now (out .entry)) at (now (out .exit)) r × (r ≤ length (now (out .entry))) ⌝ }
+    ensures { λ r. ⌜ Stored (words (eventWords event)) (now (out .entry)) at (now (out .exit)) r × (r ≤ at + mostWords) ⌝ }
 {
     match event {
         Event::Open { lanes, capacity } => {
-            put_fields(out, at, b"open lanes", lanes, b"capacity", capacity as u64)
+            put_fields(out, at, b"open    lanes", lanes, b"capacity", capacity as u64)
         }
         Event::Want { lane, purpose } => {
-            put_fields(out, at, b"want lane", lane, b"purpose", purpose as u64)
+            put_fields(out, at, b"want    lane", lane, b"purpose", purpose as u64)
         }
         Event::Take { lane, count } => {
-            put_fields(out, at, b"take lane", lane, b"count", count as u64)
+            put_fields(out, at, b"take    lane", lane, b"count", count as u64)
         }
         Event::Write { lane, content } => put_write(out, at, lane, content),
         Event::Look { lane, place } => {
-            put_fields(out, at, b"look lane", lane, b"place", place.0 as u64)
+            put_fields(out, at, b"look    lane", lane, b"place", place.0 as u64)
         }
         Event::Enter { lane, count } => {
-            put_fields(out, at, b"enter lane", lane, b"count", count as u64)
+            put_fields(out, at, b"enter   lane", lane, b"count", count as u64)
         }
         Event::Seek { whence, offset } => put_seek(
             out,
@@ -213,9 +213,9 @@ fn put_pair(out: &mut [u8], at: usize, event: Event) -> usize
 }
 
 // An event's line from its kind's word on.
-fn put_event(out: &mut [u8], at: usize, event: Event) -> usize
+pub fn put_event(out: &mut [u8], at: usize, event: Event) -> usize
     requires { ⌜ at + mostWords ≤ length (now out) ⌝ }
-    ensures { λ r. ⌜ Stored (words (eventWords event)) (now (out .entry)) at (now (out .exit)) r × (r ≤ length (now (out .entry))) ⌝ }
+    ensures { λ r. ⌜ Stored (words (eventWords event)) (now (out .entry)) at (now (out .exit)) r × (r ≤ at + mostWords) ⌝ }
 {
     match event {
         Event::Put {
