@@ -18,7 +18,7 @@ ghost use Rattle.number_text.specs.Stored.{Stored};
 ghost use Rattle.event_text.specs.Show.{StoredTwo, blockText, blockWords, eventLine, eventWords, mostEventLine, mostWords, whyNoEvent, refusalLine, signedText};
 
 // A word and the byte after it. All functions here return the index after what they stored.
-fn word(out: &mut [u8], at: usize, text: &[u8], after: u8) -> usize
+pub fn word(out: &mut [u8], at: usize, text: &[u8], after: u8) -> usize
     requires { ⌜ at + length (now text) + 1 ≤ length (now out) ⌝ }
     ensures { λ r. ⌜ Stored (now (text .entry) ++ after ∷ []) (now (out .entry)) at (now (out .exit)) r × (r ≡ at + length (now (text .entry)) + 1) ⌝ }
 {
@@ -26,7 +26,7 @@ fn word(out: &mut [u8], at: usize, text: &[u8], after: u8) -> usize
 }
 
 // A number in decimal, of at most 20 digits, and the byte after it.
-fn number(out: &mut [u8], at: usize, n: u64, after: u8) -> usize
+pub fn number(out: &mut [u8], at: usize, n: u64, after: u8) -> usize
     requires { ⌜ at + 21 ≤ length (now out) ⌝ }
     ensures { λ r. ⌜ Stored (decimal n ++ after ∷ []) (now (out .entry)) at (now (out .exit)) r × (r ≤ at + 21) ⌝ }
 {
@@ -51,7 +51,7 @@ fn recorded(out: &mut [u8], at: usize, content: u64) -> usize
 }
 
 // A name, a number and the byte after it.
-fn named(out: &mut [u8], at: usize, name: &[u8], n: u64, after: u8) -> usize
+pub fn named(out: &mut [u8], at: usize, name: &[u8], n: u64, after: u8) -> usize
     requires { ⌜ at + length (now name) + 22 ≤ length (now out) ⌝ }
     ensures { λ r. ⌜ StoredTwo (now (name .entry) ++ 32 ∷ []) (decimal n ++ after ∷ []) (now (out .entry)) at (now (out .exit)) r × (r ≤ at + length (now (name .entry)) + 22) ⌝ }
 {
@@ -88,7 +88,7 @@ fn put_put(out: &mut [u8], at: usize, lane: u8, place: u32, content: u64) -> usi
 }
 
 // A number, the byte after it and a blank.
-fn put_marked(out: &mut [u8], at: usize, n: u64, after: u8) -> usize
+pub fn put_marked(out: &mut [u8], at: usize, n: u64, after: u8) -> usize
     requires { ⌜ at + 22 ≤ length (now out) ⌝ }
     ensures { λ r. ⌜ StoredTwo (decimal n ++ after ∷ []) (32 ∷ []) (now (out .entry)) at (now (out .exit)) r × (r ≤ at + 22) ⌝ }
 {
@@ -187,7 +187,14 @@ fn put_pair(out: &mut [u8], at: usize, event: Event) -> usize
 {
     match event {
         Event::Open { lanes, capacity } => {
-            put_fields(out, at, b"open    lanes", lanes, b"capacity", capacity as u64)
+            put_fields(
+                out,
+                at,
+                b"open    lanes",
+                lanes,
+                b"capacity",
+                capacity as u64,
+            )
         }
         Event::Want { lane, purpose } => {
             put_fields(out, at, b"want    lane", lane, b"purpose", purpose as u64)

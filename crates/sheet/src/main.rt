@@ -170,6 +170,35 @@ fn work(task: Task) -> bool {
     work_on(task, &space, count)
 }
 
+// A line an event with its answer and the lanes, up to the end of the run.
+fn write_trace(sheet: &[u8]) {
+    let mut book = io::large_buffer();
+    let mut out = io::buffer();
+    let legend = trace_text::put_legend(&mut out);
+    write_first(libc::STDOUT_FILENO, &out, legend);
+    let mut tracing = trace_text::start();
+    loop {
+        let traced = trace_text::step(tracing, &mut book, sheet, &mut out);
+        write_first(libc::STDOUT_FILENO, &out, traced.length);
+        tracing = traced.next;
+        if !traced.more {
+            break;
+        }
+    }
+    let end = trace_text::summary::put_end(&mut out, tracing);
+    write_first(libc::STDOUT_FILENO, &out, end);
+}
+
+fn trace_sheet() {
+    let mut space = sheet_buffer();
+    let length = io::read_full(libc::STDIN_FILENO, &mut space);
+    if MOST_SHEET < length {
+        io::write_all(libc::STDERR_FILENO, b"sheet too long\n");
+        return;
+    }
+    write_trace(&space[..length]);
+}
+
 // Whether the first argument is this word.
 fn is_word(expected: &[u8]) -> bool {
     let mut word: [u8; 16] = [0; 16];
@@ -196,6 +225,10 @@ fn show_input() {
 fn is_done() -> bool {
     if is_word(b"show") {
         show_input();
+        return true;
+    }
+    if is_word(b"trace") {
+        trace_sheet();
         return true;
     }
     if is_word(b"version") {

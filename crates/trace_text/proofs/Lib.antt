@@ -1,0 +1,6 @@
+-- The laws of a trace.
+pub mod Accepted
+pub mod Widths
+pub mod Rows
+pub mod Within
+pub mod Refusals
