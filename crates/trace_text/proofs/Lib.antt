@@ -4,3 +4,5 @@ pub mod Widths
 pub mod Rows
 pub mod Within
 pub mod Refusals
+pub mod Tallies
+pub mod Runs

@@ -1,0 +1,102 @@
+-- A trace shows the answers and the states of the run, and its steps one after the other print it.
+use Prim.Native.Nat.{ℕ, zero, suc, _+_, _≤_, _<_}
+use mathlib.Core.Path.{_≡_, refl, sym, ap, _∙_}
+use mathlib.Core.Bool.{Bool, true, false, cond, not}
+use mathlib.Core.List.{List, [], _∷_, _++_, map, append-assoc, append-nil}
+use native.Mathlib.Nat.{zero-add}
+use native.Mathlib.Omega.{arith}
+use lib.ListN.{getD, getD-replicate, length, length-replicate, length-set, replicate}
+use Rattle.lists.proofs.Tests.{by-test}
+use Rattle.line.specs.Sound.{sound}
+use Rattle.line.specs.declared.Line.{Line}
+use Rattle.event.specs.ReadWrite.{readAt}
+use Rattle.event.specs.declared.Reading.{Reading}
+use Rattle.steps.specs.Meets.{stateOf}
+use Rattle.steps.specs.State.{State, fresh}
+use Rattle.steps.specs.Step.{callEvent}
+use Rattle.steps.specs.declared.Answer.{Answer}
+use Rattle.printout.specs.Run.{Ran, endsRun, onReading, run, runOn}
+use Rattle.trace_text.specs.TraceLine.{readWords, traceLine}
+use Rattle.trace_text.specs.Trace.{Seen, endText, howMany, lastOf, legend, onRead, seenOn, traceLines, traceText}
+use Rattle.trace_text.specs.Steps.{counted, countIn, onwards, startOf, steppedBy, steppedIn, stepsText}
+use Rattle.trace_text.specs.declared.Tracing.{Tracing}
+use Rattle.trace_text.proofs.Tallies.{countsAfter, end-same, tallied}
+
+-- ---- what a trace shows is the run
+abbrev answersOf : List Seen → List Answer
+answersOf seen = map (λ (s : Seen). s .answer) seen
+
+-- a list of events seen and a run: the same answers, and the same left
+record Shows (x : State) (seen : List Seen) (r : Ran) : Type 0 where
+  answers : answersOf seen ≡ r .answers
+  after : lastOf x seen ≡ r .after
+
+shows-reading : (x : State) (at : ℕ) (later : State → ℕ → List Seen) (rest : State → ℕ → Ran) → ((y : State) (next : ℕ) → Shows y (later y next) (rest y next))
+    → (reading : Reading) → Shows x (onRead x at reading later) (onReading x reading rest)
+shows-reading x at later rest same (Reading.Event e next) =
+    let r = callEvent x e in
+    let on = same (r .after) (next .at) in
+    by-test (endsRun (r .answer))
+    (λ t. record { answers = rw t; after = rw t })
+    (λ f. record { answers = rw f (ap (λ (as′ : List Answer). r .answer ∷ as′) (on .answers)); after = rw f (on .after) })
+shows-reading x at later rest same Reading.End = record { answers = refl; after = refl }
+shows-reading x at later rest same (Reading.Refused k) = record { answers = refl; after = refl }
+
+shows-on : (most : ℕ) (x : State) (sheet : List ℕ) (at : ℕ) → Shows x (seenOn most x sheet at) (runOn most x sheet at)
+unfolding seenOn runOn
+shows-on zero x sheet at = record { answers = refl; after = refl }
+shows-on (suc most) x sheet at =
+    shows-reading x at (λ (y : State) (next : ℕ). seenOn most y sheet next) (λ (y : State) (next : ℕ). runOn most y sheet next) (λ y next. shows-on most y sheet next) (readAt sheet at)
+
+module _ (x : State) (sheet : List ℕ) (ok : sound (x .line) (length (x .book)) ≡ true) where
+  pub trace-answers : answersOf (seenOn (length sheet) x sheet 0) ≡ run x sheet .answers
+  unfolding run
+  trace-answers = rw ok (shows-on (length sheet) x sheet 0 .answers)
+
+  pub trace-after : lastOf x (seenOn (length sheet) x sheet 0) ≡ run x sheet .after
+  unfolding run
+  trace-after = rw ok (shows-on (length sheet) x sheet 0 .after)
+
+-- ---- the steps print the trace
+-- what is left of a trace from where it stands, with the counts so far
+abbrev leftText : ℕ → List ℕ → State → List Seen → List ℕ
+leftText number counts x seen = traceLines number seen ++ endText (lastOf x seen .line) (λ (k : ℕ). getD (countsAfter (answersOf seen) counts) k 0)
+
+-- a line that no other follows
+last-line : (line end : List ℕ) → line ++ end ≡ (line ++ []) ++ end
+last-line line end = ap (λ (text : List ℕ). text ++ end) (sym (append-nil line))
+
+-- one step, and then what is left
+step-reading : (from : Tracing) (book : List ℕ) (rest : Tracing → List ℕ → List ℕ) (later : State → ℕ → List Seen)
+    → ((t : Tracing) (b : List ℕ) → rest t b ≡ leftText (t .number) (t .counts) (stateOf (t .line) b) (later (stateOf (t .line) b) (t .at)))
+    → (reading : Reading) → (let s = steppedBy from book reading in s .text ++ cond (s .more) (rest (s .next) (s .book)) (endText (s .next .line) (countIn (s .next))))
+    ≡ leftText (from .number) (from .counts) (stateOf (from .line) book) (onRead (stateOf (from .line) book) (from .at) reading later)
+unfolding traceLines
+step-reading from book rest later same (Reading.Event e next) =
+    let x = stateOf (from .line) book in
+    let r = callEvent x e in
+    let line = traceLine (from .number) (readWords (from .at) (Reading.Event e next)) (r .answer) (r .after .line) in
+    let on = onwards from (r .answer) (r .after .line) (next .at) in
+    let numbered : from .number + 1 ≡ suc (from .number) = omega arith in
+    let left = same on (r .after .book) ∙ ap (λ (n : ℕ). leftText n (on .counts) (r .after) (later (r .after) (next .at))) numbered in
+    by-test (endsRun (r .answer))
+    (λ t. rw t (last-line line _))
+    (λ f. rw f (ap (λ (text : List ℕ). line ++ text) left ∙ sym (append-assoc line _ _)))
+step-reading from book rest later same Reading.End = refl
+step-reading from book rest later same (Reading.Refused k) =
+    last-line (traceLine (from .number) (readWords (from .at) (Reading.Refused k)) (Answer.Refused k) (from .line)) _
+
+steps-on : (most : ℕ) (from : Tracing) (book sheet : List ℕ)
+    → stepsText most from book sheet ≡ leftText (from .number) (from .counts) (stateOf (from .line) book) (seenOn most (stateOf (from .line) book) sheet (from .at))
+unfolding stepsText seenOn traceLines
+steps-on zero from book sheet = refl
+steps-on (suc most) from book sheet =
+    step-reading from book (λ (t : Tracing) (b : List ℕ). stepsText most t b sheet) (λ (y : State) (next : ℕ). seenOn most y sheet next) (λ t b. steps-on most t b sheet) (readAt sheet (from .at))
+
+-- from the start, whatever the lent book held
+pub steps-print : (book sheet : List ℕ) → legend ++ stepsText (length sheet) startOf book sheet ≡ traceText (fresh book) sheet
+steps-print book sheet =
+    let seen = seenOn (length sheet) (fresh book) sheet 0 in
+    let counts : (k : ℕ) → k < 17 → getD (countsAfter (answersOf seen) (replicate 17 0)) k 0 ≡ howMany (answersOf seen) k =
+        λ k h. tallied (answersOf seen) (replicate 17 0) k h ∙ rw (getD-replicate {A = ℕ} 17 k 0 0 h) (zero-add _) in
+    ap (λ (text : List ℕ). legend ++ text) (steps-on (length sheet) startOf book sheet ∙ ap (λ (text : List ℕ). traceLines 0 seen ++ text) (end-same _ _ counts (lastOf (fresh book) seen .line)))
