@@ -6,3 +6,4 @@ pub mod Within
 pub mod Refusals
 pub mod Tallies
 pub mod Runs
+pub mod Figures

@@ -98,5 +98,5 @@ pub steps-print : (book sheet : List ℕ) → legend ++ stepsText (length sheet)
 steps-print book sheet =
     let seen = seenOn (length sheet) (fresh book) sheet 0 in
     let counts : (k : ℕ) → k < 17 → getD (countsAfter (answersOf seen) (replicate 17 0)) k 0 ≡ howMany (answersOf seen) k =
-        λ k h. tallied (answersOf seen) (replicate 17 0) k h ∙ rw (getD-replicate {A = ℕ} 17 k 0 0 h) (zero-add _) in
+    λ k h. tallied (answersOf seen) (replicate 17 0) k h ∙ rw (getD-replicate {A = ℕ} 17 k 0 0 h) (zero-add _) in
     ap (λ (text : List ℕ). legend ++ text) (steps-on (length sheet) startOf book sheet ∙ ap (λ (text : List ℕ). traceLines 0 seen ++ text) (end-same _ _ counts (lastOf (fresh book) seen .line)))
