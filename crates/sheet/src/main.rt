@@ -1,5 +1,5 @@
 // sheet: the papers' notation from standard input to a sheet's bytes on standard output; with the word `show`, a sheet's bytes to one
-// readable line an event; with `version`, the library's version. Whatever it refuses or cannot do is told on standard error.
+// readable line an event; with `trace`, its run, a line an event; with `version`, the library's version. Whatever it refuses or cannot do is told on standard error.
 ghost use Prim.Native.Nat.{_≤_};
 ghost use mathlib.Core.Path.{_≡_};
 ghost use lib.ListN.{length};
@@ -10,6 +10,8 @@ use limits::MOST_SHEET;
 use notation::MOST_NOTATION;
 use notation::Parsed;
 use standard_io::Input;
+use trace_text::Tracing;
+use trace_text::summary::put_end;
 
 // The bytes of the longest text: a byte has two digits.
 const MOST_BYTES: usize = MOST_NOTATION / 2;
@@ -121,13 +123,39 @@ fn print_events(sheet: &[u8]) -> bool {
     }
 }
 
-// The lines of a sheet; false where it has bytes that are no event, and nothing was told of it yet.
-fn show(sheet: &[u8]) -> bool {
-    if MOST_SHEET < sheet.len() {
-        tell(b"the sheet is longer than 65536 bytes\n");
+// The end of a trace; true where all bytes of the sheet, so many, are events.
+fn print_trace_end(out: &mut [u8], tracing: Tracing, bytes: usize) -> bool
+    requires { ⌜ 1792 ≤ length (now out) ⌝ }
+{
+    let end = put_end(out, tracing);
+    print_first(out, end);
+    tracing.at == bytes
+}
+
+// The trace of a sheet's run, a line an event; true where all its bytes are events, or a line could not be written.
+fn print_trace(sheet: &[u8]) -> bool {
+    let mut book = io::large_buffer();
+    let mut out = io::buffer();
+    let legend = trace_text::put_legend(&mut out);
+    if !print_first(&out, legend) {
         return true;
     }
-    if print_events(sheet) {
+    let mut tracing = trace_text::start();
+    loop {
+        let traced = trace_text::step(tracing, &mut book, sheet, &mut out);
+        if !print_first(&out, traced.length) {
+            return true;
+        }
+        tracing = traced.next;
+        if !traced.more {
+            return print_trace_end(&mut out, tracing, sheet.len());
+        }
+    }
+}
+
+// Whether nothing more is to be told of a sheet that was shown: it is whole, or it is notation by mistake, which is told here.
+fn is_told(sheet: &[u8], whole: bool) -> bool {
+    if whole {
         return true;
     }
     if notation::looks_like_notation(sheet) {
@@ -137,10 +165,36 @@ fn show(sheet: &[u8]) -> bool {
     false
 }
 
+// Whether a sheet is too long, which is told here.
+fn is_too_long(sheet: &[u8]) -> bool {
+    if MOST_SHEET < sheet.len() {
+        tell(b"the sheet is longer than 65536 bytes\n");
+        return true;
+    }
+    false
+}
+
+// The lines of a sheet; false where it has bytes that are no event, and nothing was told of it yet.
+fn show(sheet: &[u8]) -> bool {
+    if is_too_long(sheet) {
+        return true;
+    }
+    is_told(sheet, print_events(sheet))
+}
+
+// The trace of a sheet's run; false as `show`.
+fn trace(sheet: &[u8]) -> bool {
+    if is_too_long(sheet) {
+        return true;
+    }
+    is_told(sheet, print_trace(sheet))
+}
+
 // What is to be done with standard input.
 enum Task {
     Bytes,
     Show,
+    Trace,
 }
 
 // Does it with the first bytes of a buffer; false as `show`.
@@ -154,6 +208,7 @@ fn work_on(task: Task, space: &[u8], count: usize) -> bool
             true
         }
         Task::Show => show(text),
+        Task::Trace => trace(text),
     }
 }
 
@@ -168,35 +223,6 @@ fn work(task: Task) -> bool {
         return true;
     };
     work_on(task, &space, count)
-}
-
-// A line an event with its answer and the lanes, up to the end of the run.
-fn write_trace(sheet: &[u8]) {
-    let mut book = io::large_buffer();
-    let mut out = io::buffer();
-    let legend = trace_text::put_legend(&mut out);
-    write_first(libc::STDOUT_FILENO, &out, legend);
-    let mut tracing = trace_text::start();
-    loop {
-        let traced = trace_text::step(tracing, &mut book, sheet, &mut out);
-        write_first(libc::STDOUT_FILENO, &out, traced.length);
-        tracing = traced.next;
-        if !traced.more {
-            break;
-        }
-    }
-    let end = trace_text::summary::put_end(&mut out, tracing);
-    write_first(libc::STDOUT_FILENO, &out, end);
-}
-
-fn trace_sheet() {
-    let mut space = sheet_buffer();
-    let length = io::read_full(libc::STDIN_FILENO, &mut space);
-    if MOST_SHEET < length {
-        io::write_all(libc::STDERR_FILENO, b"sheet too long\n");
-        return;
-    }
-    write_trace(&space[..length]);
 }
 
 // Whether the first argument is this word.
@@ -221,6 +247,13 @@ fn show_input() {
     }
 }
 
+// Traces standard input. Bytes that are no event are an answer of the run, as in linebook, and no fault.
+fn trace_input() {
+    if has_stack() {
+        work(Task::Trace);
+    }
+}
+
 // What the one argument asks for; false where it is no word that is known.
 fn is_done() -> bool {
     if is_word(b"show") {
@@ -228,7 +261,7 @@ fn is_done() -> bool {
         return true;
     }
     if is_word(b"trace") {
-        trace_sheet();
+        trace_input();
         return true;
     }
     if is_word(b"version") {
@@ -252,5 +285,7 @@ fn main() {
             return;
         }
     }
-    tell(b"use: sheet < NOTATION > SHEET, sheet show < SHEET, sheet version or sheet help\n");
+    tell(
+        b"use: sheet < NOTATION > SHEET, sheet show < SHEET, sheet trace < SHEET, sheet version or sheet help\n",
+    );
 }
