@@ -1,14 +1,13 @@
 -- A trace shows the answers and the states of the run, and its steps one after the other print it.
-use Prim.Native.Nat.{ℕ, zero, suc, _+_, _≤_, _<_}
+use Prim.Native.Nat.{ℕ, zero, suc, _+_, _<_}
 use mathlib.Core.Path.{_≡_, refl, sym, ap, _∙_}
-use mathlib.Core.Bool.{Bool, true, false, cond, not}
+use mathlib.Core.Bool.{true, cond}
 use mathlib.Core.List.{List, [], _∷_, _++_, map, append-assoc, append-nil}
 use native.Mathlib.Nat.{zero-add}
 use native.Mathlib.Omega.{arith}
-use lib.ListN.{getD, getD-replicate, length, length-replicate, length-set, replicate}
+use lib.ListN.{getD, getD-replicate, length, replicate}
 use Rattle.lists.proofs.Tests.{by-test}
 use Rattle.line.specs.Sound.{sound}
-use Rattle.line.specs.declared.Line.{Line}
 use Rattle.event.specs.ReadWrite.{readAt}
 use Rattle.event.specs.declared.Reading.{Reading}
 use Rattle.steps.specs.Meets.{stateOf}
@@ -18,7 +17,7 @@ use Rattle.steps.specs.declared.Answer.{Answer}
 use Rattle.printout.specs.Run.{Ran, endsRun, onReading, run, runOn}
 use Rattle.trace_text.specs.TraceLine.{readWords, traceLine}
 use Rattle.trace_text.specs.Trace.{Seen, endText, howMany, lastOf, legend, onRead, seenOn, traceLines, traceText}
-use Rattle.trace_text.specs.Steps.{counted, countIn, onwards, startOf, steppedBy, steppedIn, stepsText}
+use Rattle.trace_text.specs.Steps.{countIn, onwards, startOf, steppedBy, stepsText}
 use Rattle.trace_text.specs.declared.Tracing.{Tracing}
 use Rattle.trace_text.proofs.Tallies.{countsAfter, end-same, tallied}
 

@@ -1,20 +1,17 @@
 -- The counts of a trace: one answer after the other, each number's count is how many answers have it.
 use Prim.Native.Nat.{ℕ, zero, suc, _+_, _≤_, _<_}
-use mathlib.Core.Path.{_≡_, refl, sym, ap, _∙_}
-use mathlib.Core.Logic.{_⊎_, inl, inr}
-use mathlib.Core.Bool.{true, false}
-use mathlib.Core.List.{List, [], _∷_, _++_}
+use mathlib.Core.Path.{_≡_, refl, sym, _∙_}
+use mathlib.Core.List.{List, [], _∷_}
 use native.Mathlib.Omega.{arith}
 use lib.Dec.{eqb}
 use lib.ListN.{getD, length, length-set, set}
-use lib.Seq.{getD-set-other, getD-set-same, set-out}
-use borrow.Author.Tests.{eq-eqb, ne-eqb, eqb-false, eqb-true}
+use lib.Seq.{getD-set-other, getD-set-same}
+use borrow.Author.Tests.{eqb-false, eqb-true}
 use Rattle.lists.specs.Lists.{bit}
-use Rattle.lists.proofs.Parts.{below-or-not}
 use Rattle.lists.proofs.Tests.{by-test}
 use Rattle.line.specs.declared.Line.{Line}
 use Rattle.steps.specs.declared.Answer.{Answer}
-use Rattle.trace_text.specs.Trace.{endText, howMany, refusalOf, refusedLine, refusedLines}
+use Rattle.trace_text.specs.Trace.{endText, howMany, refusalOf, refusedLines}
 use Rattle.trace_text.specs.Steps.{counted}
 
 -- the counts after answers, one after the other

@@ -5,14 +5,13 @@ use mathlib.Core.List.{List, [], _∷_, _++_, map}
 use lib.ListN.{getD, length, replicate, take}
 use Rattle.view.specs.declared.Place.{Place}
 use Rattle.line.specs.Line.{on, phaseNumber}
-use Rattle.line.specs.declared.Lane.{Lane}
 use Rattle.line.specs.declared.Line.{Line}
 use Rattle.line.specs.declared.Phase.{Phase}
 use Rattle.event.specs.declared.Reading.{Reading}
 use Rattle.steps.specs.Answer.{saidBy}
 use Rattle.steps.specs.declared.Answer.{Answer}
 use Rattle.printout.specs.Text.{ascii}
-use Rattle.printout.specs.Print.{answerWords, decimal, words}
+use Rattle.printout.specs.Print.{answerWords, decimal}
 use Rattle.event_text.specs.Show.{eventWords}
 
 -- ---- columns

@@ -3,9 +3,9 @@ use Prim.Native.Nat.{ℕ}
 use mathlib.Core.List.{List}
 use Rattle.printout.specs.Text.{ascii}
 
--- 1.0.0: document 01 whole
+-- 1.0.0: document 01 whole; 1.1.0: the programs tell what went wrong, and `sheet trace`
 abbrev pub versionNumber : ℕ
-versionNumber = 10000
+versionNumber = 10100
 
 abbrev pub versionLine : List ℕ
-versionLine = ascii "gudlemi 1.0.0\n"
+versionLine = ascii "gudlemi 1.1.0\n"

@@ -1,6 +1,6 @@
 -- `put_blanks` meets its contract: the blanks that are left, stored from where the loop stands, give what all give.
 use Prim.Native.Nat.{suc, _+_, _-_, _≤_}
-use mathlib.Core.Path.{_≡_, refl, _∙_}
+use mathlib.Core.Path.{_≡_, refl}
 use native.Mathlib.Omega.{arith}
 use lib.ListN.{length, length-replicate, length-set, replicate}
 use lib.Seq.{sets}

@@ -1,7 +1,6 @@
 -- `row_length` meets its contract: a line has 64 entries.
-use mathlib.Core.Path.{_≡_}
 use native.Mathlib.Omega.{arith}
-use lib.ListN.{length, length-map, length-take, take}
+use lib.ListN.{length-map, length-take, take}
 use borrow.Author.Needs.{needs}
 use Rattle.line.specs.Line.{on}
 use Rattle.refuse.proofs.Shape.{shape-of}
