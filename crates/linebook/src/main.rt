@@ -12,6 +12,7 @@ use limits::MOST_SHEET;
 use linebook_text::print_sheet;
 use run_text::MOST_LAST;
 use standard_io::Input;
+use standard_io::is_word;
 
 // One byte more than the longest sheet is read, to tell a longer one.
 const MOST_READ: usize = MOST_SHEET + 1;
@@ -84,25 +85,39 @@ fn is_notation(sheet: &[u8]) -> bool {
     false
 }
 
+// Says that a sheet is notation by mistake.
+fn tell_notation() {
+    standard_io::write_text(
+        libc::STDERR_FILENO,
+        b"linebook: this looks like notation: run the bytes that the program sheet makes of it\n",
+    );
+}
+
+// Says what is wrong with bytes that are too many for a sheet.
+fn tell_long(bytes: &[u8]) {
+    if notation::looks_like_notation(bytes) {
+        tell_notation();
+        return;
+    }
+    standard_io::write_text(
+        libc::STDERR_FILENO,
+        b"linebook: the sheet is longer than 65536 bytes\n",
+    );
+}
+
 // Runs the first bytes of a buffer as a sheet, and says where they are none as a whole.
 fn run_first(space: &[u8], count: usize)
     requires { ⌜ count ≤ length (now space) ⌝ }
 {
     if MOST_SHEET < count {
         print_run(space);
-        standard_io::write_text(
-            libc::STDERR_FILENO,
-            b"linebook: the sheet is longer than 65536 bytes\n",
-        );
+        tell_long(space);
         return;
     }
     let sheet = &space[..count];
     print_run(sheet);
     if is_notation(sheet) {
-        standard_io::write_text(
-            libc::STDERR_FILENO,
-            b"linebook: this looks like notation: run the bytes that the program sheet makes of it\n",
-        );
+        tell_notation();
     }
 }
 
@@ -115,13 +130,6 @@ fn run_input() {
         return;
     };
     run_first(&space, count);
-}
-
-// Whether the first argument is this word.
-fn is_word(expected: &[u8]) -> bool {
-    let mut word: [u8; 16] = [0; 16];
-    let length = os::arg(1, &mut word);
-    check::same(&word[..length], expected)
 }
 
 // Prints the library's version.

@@ -22,11 +22,12 @@ placeText s = ascii "line " ++ (decimal (s .line) ++ (ascii ", column " ++ (deci
 abbrev pub byteText : ℕ → List ℕ
 byteText c = ascii "the byte " ++ hexIn 2 c
 
--- a character that is told by itself, if it can be printed; a control character, which no text has, speaks for a sheet's bytes
+-- a kind, 01 to 0C, with which the events of a sheet begin; a character that can be printed, by itself; any other by its number
 abbrev pub otherLine : ℕ → List ℕ
 otherLine c =
-    cond (ltb c 33) (byteText c ++ ascii ": the text looks like a sheet's bytes already\n")
-    (cond (ltb c 127) (ascii "'" ++ c ∷ ascii "'\n") (byteText c ++ ascii "\n"))
+    cond (ltb c 1) (byteText c ++ ascii "\n")
+    (cond (ltb c 13) (byteText c ++ ascii ": the text looks like a sheet's bytes already\n")
+    (cond (ltb c 33) (byteText c ++ ascii "\n") (cond (ltb c 127) (ascii "'" ++ c ∷ ascii "'\n") (byteText c ++ ascii "\n"))))
 
 unfoldable pub characterLine : ℕ → List ℕ
 characterLine c =

@@ -28,8 +28,8 @@ fn put_byte(out: &mut [u8], at: usize, c: u8, after: u8) -> usize
     next + 3
 }
 
-// A control character, which no text has: a sheet's byte.
-fn put_control(out: &mut [u8], at: usize, c: u8) -> usize
+// The byte of a kind, 01 to 0C, with which the events of a sheet begin.
+fn put_kind(out: &mut [u8], at: usize, c: u8) -> usize
     requires { ⌜ at + 57 ≤ length (now out) ⌝ }
     ensures { λ r. ⌜ Stored (byteText c ++ ascii ": the text looks like a sheet's bytes already\n") (now (out .entry)) at (now (out .exit)) r × (r ≤ at + 57) ⌝ }
 {
@@ -59,8 +59,14 @@ fn put_other(out: &mut [u8], at: usize, c: u8) -> usize
     requires { ⌜ at + 57 ≤ length (now out) ⌝ }
     ensures { λ r. ⌜ Stored (otherLine c) (now (out .entry)) at (now (out .exit)) r × (r ≤ at + 57) ⌝ }
 {
+    if c < 1 {
+        return put_byte(out, at, c, LINE_END);
+    }
+    if c < 13 {
+        return put_kind(out, at, c);
+    }
     if c < 33 {
-        return put_control(out, at, c);
+        return put_byte(out, at, c, LINE_END);
     }
     if c < 127 {
         return put_quoted(out, at, c);

@@ -3,6 +3,7 @@
 ghost use Prim.Native.Nat.{_≤_};
 ghost use mathlib.Core.Path.{_≡_};
 ghost use lib.ListN.{length};
+ghost use Rattle.trace_text.specs.Steps.{mostEnd};
 use event::Cursor;
 use event::Event;
 use event::Reading;
@@ -10,6 +11,7 @@ use limits::MOST_SHEET;
 use notation::MOST_NOTATION;
 use notation::Parsed;
 use standard_io::Input;
+use standard_io::is_word;
 use trace_text::Tracing;
 use trace_text::summary::put_end;
 
@@ -125,7 +127,7 @@ fn print_events(sheet: &[u8]) -> bool {
 
 // The end of a trace; true where all bytes of the sheet, so many, are events.
 fn print_trace_end(out: &mut [u8], tracing: Tracing, bytes: usize) -> bool
-    requires { ⌜ 1792 ≤ length (now out) ⌝ }
+    requires { ⌜ mostEnd ≤ length (now out) ⌝ }
 {
     let end = put_end(out, tracing);
     print_first(out, end);
@@ -135,7 +137,7 @@ fn print_trace_end(out: &mut [u8], tracing: Tracing, bytes: usize) -> bool
 // The trace of a sheet's run, a line an event; true where all its bytes are events, or a line could not be written.
 fn print_trace(sheet: &[u8]) -> bool {
     let mut book = io::large_buffer();
-    let mut out = io::buffer();
+    let mut out = io::large_buffer();
     let legend = trace_text::put_legend(&mut out);
     if !print_first(&out, legend) {
         return true;
@@ -153,25 +155,25 @@ fn print_trace(sheet: &[u8]) -> bool {
     }
 }
 
-// Whether nothing more is to be told of a sheet that was shown: it is whole, or it is notation by mistake, which is told here.
-fn is_told(sheet: &[u8], whole: bool) -> bool {
-    if whole {
-        return true;
-    }
+// Whether bytes are notation by mistake, by their look, which is told here.
+fn is_notation(sheet: &[u8]) -> bool {
     if notation::looks_like_notation(sheet) {
-        tell(b"this looks like notation: show the bytes that sheet makes of it\n");
+        tell(b"this looks like notation: give it the bytes that sheet makes of that\n");
         return true;
     }
     false
 }
 
-// Whether a sheet is too long, which is told here.
+// Whether a sheet is too long, which is told here; notation by mistake is told as such.
 fn is_too_long(sheet: &[u8]) -> bool {
-    if MOST_SHEET < sheet.len() {
-        tell(b"the sheet is longer than 65536 bytes\n");
+    if sheet.len() <= MOST_SHEET {
+        return false;
+    }
+    if is_notation(sheet) {
         return true;
     }
-    false
+    tell(b"the sheet is longer than 65536 bytes\n");
+    true
 }
 
 // The lines of a sheet; false where it has bytes that are no event, and nothing was told of it yet.
@@ -179,7 +181,10 @@ fn show(sheet: &[u8]) -> bool {
     if is_too_long(sheet) {
         return true;
     }
-    is_told(sheet, print_events(sheet))
+    if print_events(sheet) {
+        return true;
+    }
+    is_notation(sheet)
 }
 
 // The trace of a sheet's run; false as `show`.
@@ -187,7 +192,10 @@ fn trace(sheet: &[u8]) -> bool {
     if is_too_long(sheet) {
         return true;
     }
-    is_told(sheet, print_trace(sheet))
+    if print_trace(sheet) {
+        return true;
+    }
+    is_notation(sheet)
 }
 
 // What is to be done with standard input.
@@ -223,13 +231,6 @@ fn work(task: Task) -> bool {
         return true;
     };
     work_on(task, &space, count)
-}
-
-// Whether the first argument is this word.
-fn is_word(expected: &[u8]) -> bool {
-    let mut word: [u8; 16] = [0; 16];
-    let length = os::arg(1, &mut word);
-    check::same(&word[..length], expected)
 }
 
 // Whether there is stack enough for `work`.

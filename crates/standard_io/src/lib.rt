@@ -54,14 +54,14 @@ pub fn has_stack(name: &[u8], needed: u64) -> bool {
     if needed <= limit {
         return true;
     }
-    io::write_all(libc::STDERR_FILENO, name);
-    io::write_all(libc::STDERR_FILENO, b": needs a stack of ");
+    write_text(libc::STDERR_FILENO, name);
+    write_text(libc::STDERR_FILENO, b": needs a stack of ");
     io::print_decimal(libc::STDERR_FILENO, needed);
-    io::write_all(libc::STDERR_FILENO, b" KiB, has ");
+    write_text(libc::STDERR_FILENO, b" KiB, has ");
     io::print_decimal(libc::STDERR_FILENO, limit);
-    io::write_all(libc::STDERR_FILENO, b" KiB: ulimit -s ");
+    write_text(libc::STDERR_FILENO, b" KiB: ulimit -s ");
     io::print_decimal(libc::STDERR_FILENO, needed);
-    io::write_all(libc::STDERR_FILENO, b"\n");
+    write_text(libc::STDERR_FILENO, b"\n");
     false
 }
 
@@ -115,4 +115,11 @@ pub fn write_text(file: i32, text: &[u8]) -> bool {
         written += more;
     }
     true
+}
+
+// Whether the program's first argument is this word, of at most 16 bytes.
+pub fn is_word(expected: &[u8]) -> bool {
+    let mut word: [u8; 16] = [0; 16];
+    let length = os::arg(1, &mut word);
+    check::same(&word[..length], expected)
 }

@@ -1,12 +1,14 @@
 -- A trace shows the answers and the states of the run, and its steps one after the other print it.
-use Prim.Native.Nat.{ℕ, zero, suc, _+_, _<_}
+use Prim.Native.Nat.{ℕ, zero, suc, _+_, _≤_, _<_}
 use mathlib.Core.Path.{_≡_, refl, sym, ap, _∙_}
 use mathlib.Core.Bool.{true, cond}
 use mathlib.Core.List.{List, [], _∷_, _++_, map, append-assoc, append-nil}
-use native.Mathlib.Nat.{zero-add}
+use native.Mathlib.Nat.{le-of-suc-le-suc, not-suc-le-zero, zero-add}
 use native.Mathlib.Omega.{arith}
-use lib.ListN.{getD, getD-replicate, length, replicate}
+use lib.ListN.{getD, getD-replicate, length, replicate, take}
+use lib.Seq.{take-nil}
 use Rattle.lists.proofs.Tests.{by-test}
+use Rattle.line.specs.Line.{unopened}
 use Rattle.line.specs.Sound.{sound}
 use Rattle.event.specs.ReadWrite.{readAt}
 use Rattle.event.specs.declared.Reading.{Reading}
@@ -16,7 +18,7 @@ use Rattle.steps.specs.Step.{callEvent}
 use Rattle.steps.specs.declared.Answer.{Answer}
 use Rattle.printout.specs.Run.{Ran, endsRun, onReading, run, runOn}
 use Rattle.trace_text.specs.TraceLine.{readWords, traceLine}
-use Rattle.trace_text.specs.Trace.{Seen, endText, howMany, lastOf, legend, onRead, seenOn, traceLines, traceText}
+use Rattle.trace_text.specs.Trace.{Seen, endText, howMany, lastOf, legend, onRead, seenBy, seenOn, traceLines, traceText}
 use Rattle.trace_text.specs.Steps.{countIn, onwards, startOf, steppedBy, stepsText}
 use Rattle.trace_text.specs.declared.Tracing.{Tracing}
 use Rattle.trace_text.proofs.Tallies.{countsAfter, end-same, tallied}
@@ -47,14 +49,38 @@ shows-on zero x sheet at = record { answers = refl; after = refl }
 shows-on (suc most) x sheet at =
     shows-reading x at (λ (y : State) (next : ℕ). seenOn most y sheet next) (λ (y : State) (next : ℕ). runOn most y sheet next) (λ y next. shows-on most y sheet next) (readAt sheet at)
 
-module _ (x : State) (sheet : List ℕ) (ok : sound (x .line) (length (x .book)) ≡ true) where
-  pub trace-answers : answersOf (seenOn (length sheet) x sheet 0) ≡ run x sheet .answers
-  unfolding run
-  trace-answers = rw ok (shows-on (length sheet) x sheet 0 .answers)
+first-read : (x : State) (at k : ℕ) (later fewer : State → ℕ → List Seen) → ((y : State) (next : ℕ) → take k (later y next) ≡ fewer y next)
+    → (reading : Reading) → take (suc k) (onRead x at reading later) ≡ onRead x at reading fewer
+first-read x at k later fewer same (Reading.Event e next) =
+    let r = callEvent x e in
+    let one = seenBy (r .after) at (Reading.Event e next) (r .answer) in
+    by-test (endsRun (r .answer))
+    (λ t. rw t (ap (λ (ss : List Seen). one ∷ ss) (take-nil k)))
+    (λ f. rw f (ap (λ (ss : List Seen). one ∷ ss) (same (r .after) (next .at))))
+first-read x at k later fewer same Reading.End = refl
+first-read x at k later fewer same (Reading.Refused j) = ap (λ (ss : List Seen). seenBy x at (Reading.Refused j) (Answer.Refused j) ∷ ss) (take-nil k)
 
-  pub trace-after : lastOf x (seenOn (length sheet) x sheet 0) ≡ run x sheet .after
+-- the events seen in a shorter run are the first of those seen in a longer one
+first-seen : (k n : ℕ) → k ≤ n → (x : State) (sheet : List ℕ) (at : ℕ) → take k (seenOn n x sheet at) ≡ seenOn k x sheet at
+unfolding seenOn
+first-seen zero n h x sheet at = refl
+first-seen (suc k) zero h x sheet at = absurd (not-suc-le-zero h)
+first-seen (suc k) (suc n) h x sheet at =
+    first-read x at k (λ (y : State) (next : ℕ). seenOn n y sheet next) (λ (y : State) (next : ℕ). seenOn k y sheet next)
+    (λ y next. first-seen k n (le-of-suc-le-suc h) y sheet next) (readAt sheet at)
+
+module _ (x : State) (sheet : List ℕ) where
+  -- the line and the book after the k-th event that is shown are those after k events of the run
+  pub trace-states : (k : ℕ) → k ≤ length sheet → lastOf x (take k (seenOn (length sheet) x sheet 0)) ≡ runOn k x sheet 0 .after
+  trace-states k h = ap (lastOf x) (first-seen k (length sheet) h x sheet 0) ∙ shows-on k x sheet 0 .after
+
+  pub trace-answers : sound (x .line) (length (x .book)) ≡ true → answersOf (seenOn (length sheet) x sheet 0) ≡ run x sheet .answers
   unfolding run
-  trace-after = rw ok (shows-on (length sheet) x sheet 0 .after)
+  trace-answers ok = rw ok (shows-on (length sheet) x sheet 0 .answers)
+
+  pub trace-after : sound (x .line) (length (x .book)) ≡ true → lastOf x (seenOn (length sheet) x sheet 0) ≡ run x sheet .after
+  unfolding run
+  trace-after ok = rw ok (shows-on (length sheet) x sheet 0 .after)
 
 -- ---- the steps print the trace
 -- what is left of a trace from where it stands, with the counts so far
@@ -99,3 +125,14 @@ steps-print book sheet =
     let counts : (k : ℕ) → k < 17 → getD (countsAfter (answersOf seen) (replicate 17 0)) k 0 ≡ howMany (answersOf seen) k =
     λ k h. tallied (answersOf seen) (replicate 17 0) k h ∙ rw (getD-replicate {A = ℕ} 17 k 0 0 h) (zero-add _) in
     ap (λ (text : List ℕ). legend ++ text) (steps-on (length sheet) startOf book sheet ∙ ap (λ (text : List ℕ). traceLines 0 seen ++ text) (end-same _ _ counts (lastOf (fresh book) seen .line)))
+
+-- ---- from an unopened line, as the program runs a sheet
+unopened-sound : (n : ℕ) → sound unopened n ≡ true
+unfolding sound
+unopened-sound n = refl
+
+pub fresh-answers : (book sheet : List ℕ) → answersOf (seenOn (length sheet) (fresh book) sheet 0) ≡ run (fresh book) sheet .answers
+fresh-answers book sheet = trace-answers (fresh book) sheet (unopened-sound (length book))
+
+pub fresh-after : (book sheet : List ℕ) → lastOf (fresh book) (seenOn (length sheet) (fresh book) sheet 0) ≡ run (fresh book) sheet .after
+fresh-after book sheet = trace-after (fresh book) sheet (unopened-sound (length book))

@@ -11,7 +11,7 @@ use Rattle.lists.specs.Lists.{bit}
 use Rattle.lists.proofs.Tests.{by-test}
 use Rattle.line.specs.declared.Line.{Line}
 use Rattle.steps.specs.declared.Answer.{Answer}
-use Rattle.trace_text.specs.Trace.{endText, howMany, refusalOf, refusedLines}
+use Rattle.trace_text.specs.Trace.{endText, howMany, refusalOf, refusedLine, textsFrom}
 use Rattle.trace_text.specs.Steps.{counted}
 
 -- the counts after answers, one after the other
@@ -35,8 +35,8 @@ tallied (a ∷ as′) counts k h =
 
 -- ---- the end of a trace by the counts of the numbers 0 to 16
 module _ (f g : ℕ → ℕ) (same : (k : ℕ) → k < 17 → f k ≡ g k) where
-  lines-same : (k more : ℕ) → k + more ≤ 17 → refusedLines f k more ≡ refusedLines g k more
-  unfolding refusedLines
+  lines-same : (k more : ℕ) → k + more ≤ 17 → textsFrom (λ (i : ℕ). refusedLine i (f i)) k more ≡ textsFrom (λ (i : ℕ). refusedLine i (g i)) k more
+  unfolding textsFrom
   lines-same k zero h = refl
   lines-same k (suc more) h =
       let here = same k (omega (arith, h)) in

@@ -77,6 +77,10 @@ pub record Within (from : Tracing) (sheet : List ℕ) : Type 0 where
   pub inside : from .at ≤ length sheet
   pub counts-within : allPass (λ (n : ℕ). leb n (from .number)) (from .counts) ≡ true
 
+-- the end of a trace is not longer than this: four words, 64 lanes, and 17 counts
+abbrev pub mostEnd : ℕ
+mostEnd = 4352
+
 pub record StepReady (from : Tracing) (sheet out : List ℕ) : Type 0 where
   pub within : Within from sheet
   pub room : mostTraceLine ≤ length out

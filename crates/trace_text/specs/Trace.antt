@@ -1,11 +1,13 @@
--- The trace of a sheet's run, whole: what the letters mean, a line an event, what is left, and how many events were accepted and refused. Tied to `run` by trace_text/Runs: trace-answers, trace-after.
+-- The trace of a sheet's run, whole: what the letters mean, a line an event, what is left, and how many events were accepted and refused. Tied to `run` by trace_text/Runs: trace-states, fresh-answers, fresh-after.
 use Prim.Native.Nat.{ℕ, zero, suc}
 use mathlib.Core.Bool.{cond}
 use mathlib.Core.List.{List, [], _∷_, _++_, map}
 use lib.Dec.{eqb}
-use lib.ListN.{length}
+use lib.ListN.{getD, length}
 use Rattle.lists.specs.Lists.{countPass}
+use Rattle.line.specs.Line.{isIdle, phaseAt, phaseNumber}
 use Rattle.line.specs.declared.Line.{Line}
+use Rattle.line.specs.declared.Phase.{Phase}
 use Rattle.event.specs.ReadWrite.{readAt}
 use Rattle.event.specs.declared.Reading.{Reading}
 use Rattle.steps.specs.Answer.{saidBy}
@@ -15,7 +17,7 @@ use Rattle.steps.specs.declared.Answer.{Answer}
 use Rattle.printout.specs.Text.{ascii}
 use Rattle.printout.specs.Print.{decimal, words}
 use Rattle.printout.specs.Run.{endsRun}
-use Rattle.trace_text.specs.TraceLine.{readWords, refusalWords, traceLine}
+use Rattle.trace_text.specs.TraceLine.{readWords, refusalWords, rowOf, traceLine}
 
 -- ---- the events of a run
 -- one of them: where it stands in the sheet, what was read there, the answer, and the line and the book after it
@@ -60,15 +62,31 @@ acceptedLine n = words (decimal n ∷ ascii "accepted" ∷ [])
 abbrev pub refusedLine : ℕ → ℕ → List ℕ
 refusedLine k n = cond (eqb n 0) [] (words (decimal n ∷ refusalWords k))
 
--- the lines of `more` numbers from k on, with f k the count of each
-unfoldable pub refusedLines : (ℕ → ℕ) → ℕ → ℕ → List ℕ
-refusedLines f k zero = []
-refusedLines f k (suc more) = refusedLine k (f k) ++ refusedLines f (suc k) more
+-- the texts f k, f (k + 1) and so on, `more` of them
+unfoldable pub textsFrom : (ℕ → List ℕ) → ℕ → ℕ → List ℕ
+textsFrom f k zero = []
+textsFrom f k (suc more) = f k ++ textsFrom f (suc k) more
 
--- the size and the pointer at the end, and the counts: f 0 accepted, f k refused with number k
+-- the refusals by number, with f k the count of each
+abbrev pub refusedLines : (ℕ → ℕ) → List ℕ
+refusedLines f = textsFrom (λ (k : ℕ). refusedLine k (f k)) 1 16
+
+-- ---- the end: the size and the pointer, each lane that is not idle, and the counts: f 0 accepted, f k refused with number k
+abbrev pub phaseWord : Phase → List ℕ
+phaseWord x =
+    getD
+    (ascii "idle" ∷ ascii "waiting" ∷ ascii "woken" ∷ ascii "holding" ∷ ascii "writing" ∷ ascii "reading" ∷ ascii "gathered" ∷ [])
+    (phaseNumber x) []
+
+abbrev pub laneLine : ℕ → Phase → List ℕ
+laneLine i x = cond (isIdle x) [] (words (ascii "lane" ∷ decimal i ∷ phaseWord x ∷ []))
+
+abbrev pub laneLines : Line → List ℕ
+laneLines l = textsFrom (λ (i : ℕ). laneLine i (phaseAt l i)) 0 (length (rowOf l))
+
 abbrev pub endText : Line → (ℕ → ℕ) → List ℕ
 endText l f =
-    words (ascii "end size" ∷ decimal (l .size) ∷ ascii "pointer" ∷ decimal (l .pointer .0) ∷ []) ++ (acceptedLine (f 0) ++ refusedLines f 1 16)
+    words (ascii "end size" ∷ decimal (l .size) ∷ ascii "pointer" ∷ decimal (l .pointer .0) ∷ []) ++ (laneLines l ++ (acceptedLine (f 0) ++ refusedLines f))
 
 -- ---- the whole
 abbrev pub legend : List ℕ

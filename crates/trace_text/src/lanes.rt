@@ -1,12 +1,20 @@
-// The lanes as a row of letters.
+// The lanes as a row of letters, and each that is not idle as a line.
 ghost use Prim.Native.Nat.{_+_, _≤_};
+ghost use mathlib.Core.List.{[], _∷_};
 ghost use mathlib.Core.Path.{_≡_};
 ghost use lib.ListN.{length};
 ghost use Rattle.number_text.specs.Stored.{Stored};
+ghost use Rattle.printout.specs.Print.{words};
 ghost use Rattle.trace_text.specs.TraceLine.{letterOf, rowOf};
+ghost use Rattle.trace_text.specs.Trace.{laneLine, laneLines, phaseWord};
+use event_text::named;
+use event_text::word;
 use limits::MOST_LANES;
 use line::Line;
 use line::Phase;
+use phase_tests::is_idle;
+use word_text::BLANK;
+use word_text::LINE_END;
 
 // The letter of a phase.
 fn letter(phase: Phase) -> u8
@@ -49,4 +57,50 @@ pub fn put_row(out: &mut [u8], at: usize, line: Line) -> usize
         i += 1;
     }
     at + i
+}
+
+// The word of a phase, and the line end.
+fn put_phase(out: &mut [u8], at: usize, phase: Phase) -> usize
+    requires { ⌜ at + 9 ≤ length (now out) ⌝ }
+    ensures { λ r. ⌜ Stored (words (phaseWord phase ∷ [])) (now (out .entry)) at (now (out .exit)) r × (r ≤ at + 9) ⌝ }
+{
+    match phase {
+        Phase::Idle => word(out, at, b"idle", LINE_END),
+        Phase::Waiting(_) => word(out, at, b"waiting", LINE_END),
+        Phase::Woken(_, _) => word(out, at, b"woken", LINE_END),
+        Phase::Holding(_, _) => word(out, at, b"holding", LINE_END),
+        Phase::BusyWriting { left: _, next: _ } => word(out, at, b"writing", LINE_END),
+        Phase::BusyReading { left: _, next: _ } => word(out, at, b"reading", LINE_END),
+        Phase::Gathered(_) => word(out, at, b"gathered", LINE_END),
+    }
+}
+
+// The line of a lane; of one that is idle nothing.
+fn put_lane(out: &mut [u8], at: usize, lane: u64, phase: Phase) -> usize
+    requires { ⌜ at + 40 ≤ length (now out) ⌝ }
+    ensures { λ r. ⌜ Stored (laneLine lane phase) (now (out .entry)) at (now (out .exit)) r × (r ≤ at + 40) ⌝ }
+{
+    if is_idle(phase) {
+        return at;
+    }
+    let next = named(out, at, b"lane", lane, BLANK);
+    put_phase(out, next, phase)
+}
+
+// The lines of the lanes.
+pub fn put_lanes(out: &mut [u8], at: usize, line: Line) -> usize
+    requires { ⌜ at + 2560 ≤ length (now out) ⌝ }
+    ensures { λ r. ⌜ Stored (laneLines line) (now (out .entry)) at (now (out .exit)) r × (r ≤ at + 2560) ⌝ }
+{
+    let count = row_length(line);
+    let lane = line.lane;
+    let mut end = at;
+    let mut i: usize = 0;
+    while i < count {
+        let here = lane[i];
+        let phase = here.phase;
+        end = put_lane(out, end, i as u64, phase);
+        i += 1;
+    }
+    end
 }

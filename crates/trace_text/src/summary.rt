@@ -1,12 +1,13 @@
-// The end of a trace: the size and the pointer, and how many events were accepted and refused.
+// The end of a trace: the size and the pointer, the lanes that are not idle, and how many events were accepted and refused.
 ghost use Prim.Native.Nat.{_+_, _≤_, _<_};
 ghost use lib.ListN.{getD, length};
 ghost use Rattle.number_text.specs.Stored.{Stored};
 ghost use Rattle.trace_text.specs.Trace.{acceptedLine, endText, refusedLine, refusedLines};
-ghost use Rattle.trace_text.specs.Steps.{countIn};
+ghost use Rattle.trace_text.specs.Steps.{countIn, mostEnd};
 use crate::COUNTS;
 use crate::Tracing;
 use crate::answers::put_refusal;
+use crate::lanes::put_lanes;
 use event_text::number;
 use event_text::word;
 use word_text::BLANK;
@@ -37,7 +38,7 @@ fn put_refused(out: &mut [u8], at: usize, refusal: u8, count: u64) -> usize
 // The refusals by number.
 fn put_all_refused(out: &mut [u8], at: usize, counts: [u64; COUNTS]) -> usize
     requires { ⌜ at + 1536 ≤ length (now out) ⌝ }
-    ensures { λ r. ⌜ Stored (refusedLines (λ k. getD counts k 0) 1 16) (now (out .entry)) at (now (out .exit)) r × (r ≤ at + 1536) ⌝ }
+    ensures { λ r. ⌜ Stored (refusedLines (λ k. getD counts k 0)) (now (out .entry)) at (now (out .exit)) r × (r ≤ at + 1536) ⌝ }
 {
     let mut end = at;
     let mut refusal: u8 = 1;
@@ -49,9 +50,9 @@ fn put_all_refused(out: &mut [u8], at: usize, counts: [u64; COUNTS]) -> usize
     end
 }
 
-// What the run left, and the counts.
+// What the run left, the lanes that are not idle, and the counts.
 pub fn put_end(out: &mut [u8], tracing: Tracing) -> usize
-    requires { ⌜ 1792 ≤ length (now out) ⌝ }
+    requires { ⌜ mostEnd ≤ length (now out) ⌝ }
     ensures { λ r. ⌜ Stored (endText (tracing .line) (countIn tracing)) (now (out .entry)) 0 (now (out .exit)) r × (r ≤ length (now (out .entry))) ⌝ }
 {
     let line = tracing.line;
@@ -61,6 +62,7 @@ pub fn put_end(out: &mut [u8], tracing: Tracing) -> usize
     let to_word = number(out, to_size, wide32(line.size), BLANK);
     let to_place = word(out, to_word, b"pointer", BLANK);
     let next = number(out, to_place, wide32(pointer.0), LINE_END);
-    let accepted = put_accepted(out, next, counts[0]);
-    put_all_refused(out, accepted, counts)
+    let to_counts = put_lanes(out, next, line);
+    let refused = put_accepted(out, to_counts, counts[0]);
+    put_all_refused(out, refused, counts)
 }

@@ -10,7 +10,7 @@ use Rattle.sheet.proofs.print_trace.Statement.{statement}
 use Rattle.sheet.proofs.print_trace.Tie as tie
 
 abbrev Inv-loop : tie.InvT-loop
-Inv-loop sheet book₀ out₀ legend tracing₀ book out tracing = Within tracing sheet × (65536 ≡ length book) × (4096 ≡ length out)
+Inv-loop sheet book₀ out₀ legend tracing₀ book out tracing = Within tracing sheet × (65536 ≡ length book) × (65536 ≡ length out)
 
 abbrev μ-loop : tie.MeasureT-loop
 μ-loop sheet book₀ out₀ legend tracing₀ book out tracing = length sheet - tracing .at

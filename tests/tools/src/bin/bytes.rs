@@ -50,7 +50,7 @@ fn found(byte: Option<&u8>) -> String {
         Some(b'\r' | b'\n') => "a line end".to_string(),
         Some(b'#') => "a comment".to_string(),
         Some(c) if c.is_ascii_graphic() => format!("'{}'", char::from(*c)),
-        Some(c) if *c < 32 => {
+        Some(c) if (1..13).contains(c) => {
             format!("the byte {c:02x}: the text looks like a sheet's bytes already")
         }
         Some(c) => format!("the byte {c:02x}"),

@@ -1,6 +1,6 @@
 -- `ends_run` meets its contract.
 use borrow.Author.Needs.{needs}
-use Rattle.trace_text.proofs.Accepted.{not-refused}
+use Rattle.answer_text.proofs.Accepted.{not-refused}
 use Rattle.trace_text.proofs.answers.ends_run.Statement.{statement}
 use Rattle.trace_text.proofs.answers.ends_run.Tie as tie
 

@@ -2,7 +2,7 @@
 use native.Mathlib.Omega.{arith}
 use borrow.Author.Needs.{needs}
 use Rattle.answer_text.proofs.Lengths.{values-short}
-use Rattle.trace_text.proofs.Accepted.{not-refused}
+use Rattle.answer_text.proofs.Accepted.{not-refused}
 use Rattle.trace_text.proofs.answers.put_told.Statement.{statement}
 use Rattle.trace_text.proofs.answers.put_told.Tie as tie
 

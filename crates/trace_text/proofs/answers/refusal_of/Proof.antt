@@ -1,6 +1,6 @@
 -- `refusal_of` meets its contract.
 use borrow.Author.Needs.{needs}
-use Rattle.trace_text.proofs.Accepted.{not-refused}
+use Rattle.answer_text.proofs.Accepted.{not-refused}
 use Rattle.trace_text.proofs.answers.refusal_of.Statement.{statement}
 use Rattle.trace_text.proofs.answers.refusal_of.Tie as tie
 

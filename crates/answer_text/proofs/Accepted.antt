@@ -1,4 +1,4 @@
--- Answers that are no refusals: accepted, and no end of a run.
+-- An answer of another case than a refusal is accepted.
 use Prim.Native.Nat.{ℕ}
 use mathlib.Core.Path.{_≡_, refl}
 use mathlib.Core.Bool.{true}
