@@ -1,2 +1,3 @@
 -- Sheets in words.
+pub mod Reasons
 pub mod Show

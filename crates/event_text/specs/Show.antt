@@ -2,7 +2,7 @@
 use Prim.Native.Nat.{ℕ, _-_}
 use mathlib.Core.Bool.{cond}
 use mathlib.Core.List.{List, [], _∷_, _++_, map}
-use lib.Dec.{eqb, ltb}
+use lib.Dec.{ltb}
 use lib.ListN.{getD, length, replicate}
 use Rattle.view.specs.View.{block}
 use Rattle.view.specs.declared.Block.{Block}
@@ -13,6 +13,7 @@ use Rattle.event.specs.declared.Event.{Event}
 use Rattle.number_text.specs.Stored.{Stored}
 use Rattle.printout.specs.Text.{ascii}
 use Rattle.printout.specs.Print.{decimal, hexIn, words}
+use Rattle.event_text.specs.Reasons.{reasonText}
 
 -- the longest line that a function here asks room for
 abbrev pub mostEventLine : ℕ
@@ -63,9 +64,6 @@ eventWords e = kindWord (ascii (kindAt (kindOf e) .word)) ∷ fieldsWords (kindA
 abbrev pub eventLine : ℕ → Event → List ℕ
 eventLine number e = (decimal number ++ ascii " ") ++ words (eventWords e)
 
--- the line at bytes that are no event: refusal 2 or 3
-abbrev pub whyNoEvent : ℕ → List ℕ
-whyNoEvent k = cond (eqb k 2) (ascii "kind not listed") (ascii "body cut short")
-
+-- the line at bytes that are no event, by the number of their refusal
 abbrev pub refusalLine : ℕ → ℕ → ℕ → List ℕ
-refusalLine number at k = words (decimal number ∷ ascii "at byte" ∷ (decimal at ++ ascii ":") ∷ whyNoEvent k ∷ [])
+refusalLine number at k = words (decimal number ∷ ascii "at byte" ∷ (decimal at ++ ascii ":") ∷ reasonText k ∷ [])

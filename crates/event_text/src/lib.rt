@@ -15,7 +15,11 @@ ghost use Rattle.event.specs.Event.{fieldsOf};
 ghost use Rattle.printout.specs.Text.{ascii};
 ghost use Rattle.printout.specs.Print.{decimal, hexIn, words};
 ghost use Rattle.number_text.specs.Stored.{Stored};
-ghost use Rattle.event_text.specs.Show.{StoredTwo, blockText, blockWords, eventLine, eventWords, mostEventLine, mostWords, whyNoEvent, refusalLine, signedText};
+ghost use Rattle.event_text.specs.Reasons.{reasonText};
+ghost use Rattle.event_text.specs.Show.{StoredTwo, blockText, blockWords, eventLine, eventWords, mostEventLine, mostWords, refusalLine, signedText};
+
+// The last number of a reason for refusing.
+pub const LAST_REASON: u8 = 16;
 
 // A word and the byte after it. All functions here return the index after what they stored.
 pub fn word(out: &mut [u8], at: usize, text: &[u8], after: u8) -> usize
@@ -249,15 +253,30 @@ pub fn show_event(out: &mut [u8], count: u64, event: Event) -> usize
     put_event(out, next, event)
 }
 
-// Why bytes are no event: refusal 2 or 3.
-fn put_reason(out: &mut [u8], at: usize, refusal: u8) -> usize
-    requires { ⌜ at + 16 ≤ length (now out) ⌝ }
-    ensures { λ r. ⌜ Stored (words (whyNoEvent refusal ∷ [])) (now (out .entry)) at (now (out .exit)) r × (r ≤ length (now (out .entry))) ⌝ }
+// The reason of a refusal, and the line end; of a number that is no reason's the line end alone.
+pub fn put_reason(out: &mut [u8], at: usize, refusal: u8) -> usize
+    requires { ⌜ at + 26 ≤ length (now out) ⌝ }
+    ensures { λ r. ⌜ Stored (words (reasonText refusal ∷ [])) (now (out .entry)) at (now (out .exit)) r × (r ≤ at + 26) ⌝ }
 {
-    if refusal == 2 {
-        return word(out, at, b"kind not listed", LINE_END);
+    match refusal {
+        1 => word(out, at, b"line not sound", LINE_END),
+        2 => word(out, at, b"kind not listed", LINE_END),
+        3 => word(out, at, b"body cut short", LINE_END),
+        4 => word(out, at, b"line not open", LINE_END),
+        5 => word(out, at, b"line already open", LINE_END),
+        6 => word(out, at, b"lanes out of range", LINE_END),
+        7 => word(out, at, b"capacity out of range", LINE_END),
+        8 => word(out, at, b"no such lane", LINE_END),
+        9 => word(out, at, b"purpose or whence above 2", LINE_END),
+        10 => word(out, at, b"view breaks a rule", LINE_END),
+        11 => word(out, at, b"a lane is not idle", LINE_END),
+        12 => word(out, at, b"a lane is gathered", LINE_END),
+        13 => word(out, at, b"wrong phase or purpose", LINE_END),
+        14 => word(out, at, b"no wake yet", LINE_END),
+        15 => word(out, at, b"pointer out of range", LINE_END),
+        16 => word(out, at, b"records do not fit", LINE_END),
+        _ => word(out, at, b"", LINE_END),
     }
-    word(out, at, b"body cut short", LINE_END)
 }
 
 // The line at bytes that are no event: the number that an event would have, the byte and the reason.

@@ -1,13 +1,12 @@
--- The lanes that a row shows, and numbers that have no reason.
-use Prim.Native.Nat.{ℕ, zero, suc, _+_, _≤_, _<_, min}
-use mathlib.Core.Path.{_≡_, refl, sym, _∙_}
+-- The lanes that a row shows.
+use Prim.Native.Nat.{ℕ, _≤_, _<_, min}
+use mathlib.Core.Path.{_≡_, sym, _∙_}
 use mathlib.Core.Logic.{_⊎_, inl, inr}
-use mathlib.Core.List.{List, [], _∷_, map}
+use mathlib.Core.List.{List, map}
 use native.Mathlib.Omega.{arith}
-use lib.ListN.{List·getD-eq-default, length, length-map, length-take, take}
+use lib.ListN.{length, length-map, length-take, take}
 use lib.Seq.{take-all, take-length}
 use Rattle.lists.proofs.Parts.{below-or-not}
-use Rattle.trace_text.specs.TraceLine.{reasonOf, reasons}
 
 -- a list cut at n is as well cut at the length that is left
 pub taken-count : {A B : Type 0} (f : A → B) (l : List A) (n count : ℕ) → count ≡ length (map f (take n l)) → take count l ≡ take n l
@@ -19,11 +18,3 @@ taken-count f l n count same = go (below-or-not n (length l))
     go : (n < length l) ⊎ (length l ≤ n) → take count l ≡ take n l
     go (inl h) = let is : count ≡ n = omega (arith, long) in rw is
     go (inr h) = let is : count ≡ length l = omega (arith, long) in rw is (take-length l ∙ sym (take-all n l h))
-
--- a number that is none of 1 to 16
-pub past : (k n : ℕ) → k ≤ n → (n ≡ k → ⊥) → k + 1 ≤ n
-past k n some other = omega (arith, some, other)
-
-pub no-reason : (n : ℕ) → (1 ≤ n → 17 ≤ n) → reasonOf n ≡ []
-no-reason zero further = refl
-no-reason (suc n) further = List·getD-eq-default ([] ∷ reasons) [] (further (omega arith))

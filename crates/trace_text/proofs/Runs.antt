@@ -17,6 +17,7 @@ use Rattle.steps.specs.State.{State, fresh}
 use Rattle.steps.specs.Step.{callEvent}
 use Rattle.steps.specs.declared.Answer.{Answer}
 use Rattle.printout.specs.Run.{Ran, endsRun, onReading, run, runOn}
+use Rattle.event_text.specs.Reasons.{lastReason}
 use Rattle.trace_text.specs.TraceLine.{readWords, traceLine}
 use Rattle.trace_text.specs.Trace.{Seen, endText, howMany, lastOf, legend, onRead, seenBy, seenOn, traceLines, traceText}
 use Rattle.trace_text.specs.Steps.{countIn, onwards, startOf, steppedBy, stepsText}
@@ -122,8 +123,8 @@ steps-on (suc most) from book sheet =
 pub steps-print : (book sheet : List ℕ) → legend ++ stepsText (length sheet) startOf book sheet ≡ traceText (fresh book) sheet
 steps-print book sheet =
     let seen = seenOn (length sheet) (fresh book) sheet 0 in
-    let counts : (k : ℕ) → k < 17 → getD (countsAfter (answersOf seen) (replicate 17 0)) k 0 ≡ howMany (answersOf seen) k =
-    λ k h. tallied (answersOf seen) (replicate 17 0) k h ∙ rw (getD-replicate {A = ℕ} 17 k 0 0 h) (zero-add _) in
+    let counts : (k : ℕ) → k < lastReason + 1 → getD (countsAfter (answersOf seen) (replicate (lastReason + 1) 0)) k 0 ≡ howMany (answersOf seen) k =
+    λ k h. tallied (answersOf seen) (replicate (lastReason + 1) 0) k h ∙ rw (getD-replicate {A = ℕ} (lastReason + 1) k 0 0 h) (zero-add _) in
     ap (λ (text : List ℕ). legend ++ text) (steps-on (length sheet) startOf book sheet ∙ ap (λ (text : List ℕ). traceLines 0 seen ++ text) (end-same _ _ counts (lastOf (fresh book) seen .line)))
 
 -- ---- from an unopened line, as the program runs a sheet

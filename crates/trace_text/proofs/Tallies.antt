@@ -11,6 +11,7 @@ use Rattle.lists.specs.Lists.{bit}
 use Rattle.lists.proofs.Tests.{by-test}
 use Rattle.line.specs.declared.Line.{Line}
 use Rattle.steps.specs.declared.Answer.{Answer}
+use Rattle.event_text.specs.Reasons.{lastReason}
 use Rattle.trace_text.specs.Trace.{endText, howMany, refusalOf, refusedLine, textsFrom}
 use Rattle.trace_text.specs.Steps.{counted}
 
@@ -33,9 +34,9 @@ tallied (a ∷ as′) counts k h =
     let long : k < length (counted a counts) = rw (length-set counts (refusalOf a)) h in
     tallied as′ (counted a counts) k long ∙ omega (arith, one (refusalOf a) k counts h)
 
--- ---- the end of a trace by the counts of the numbers 0 to 16
-module _ (f g : ℕ → ℕ) (same : (k : ℕ) → k < 17 → f k ≡ g k) where
-  lines-same : (k more : ℕ) → k + more ≤ 17 → textsFrom (λ (i : ℕ). refusedLine i (f i)) k more ≡ textsFrom (λ (i : ℕ). refusedLine i (g i)) k more
+-- ---- the end of a trace by the counts
+module _ (f g : ℕ → ℕ) (same : (k : ℕ) → k < lastReason + 1 → f k ≡ g k) where
+  lines-same : (k more : ℕ) → k + more ≤ lastReason + 1 → textsFrom (λ (i : ℕ). refusedLine i (f i)) k more ≡ textsFrom (λ (i : ℕ). refusedLine i (g i)) k more
   unfolding textsFrom
   lines-same k zero h = refl
   lines-same k (suc more) h =
@@ -44,4 +45,4 @@ module _ (f g : ℕ → ℕ) (same : (k : ℕ) → k < 17 → f k ≡ g k) where
       rw (here, rest)
 
   pub end-same : (l : Line) → endText l f ≡ endText l g
-  end-same l = rw (same 0 (omega arith), lines-same 1 16 (omega arith))
+  end-same l = rw (same 0 (omega arith), lines-same 1 lastReason (omega arith))

@@ -1,10 +1,11 @@
 -- The steps in which a trace is printed, an event each: what one stores, and where it leaves the run. That the steps together print the trace: trace_text/Runs: steps-print.
-use Prim.Native.Nat.{ℕ, zero, suc, _+_, _≤_, _<_}
+use Prim.Native.Nat.{ℕ, zero, suc, _+_, _*_, _≤_, _<_}
 use mathlib.Core.Bool.{Bool, true, false, cond, not}
 use mathlib.Core.List.{List, [], _++_}
 use mathlib.Core.Path.{_≡_}
 use lib.Dec.{leb}
 use lib.ListN.{getD, length, replicate, set}
+use Rattle.limits.specs.Limits.{mostLanes}
 use Rattle.lists.specs.Lists.{allPass}
 use Rattle.line.specs.Line.{unopened}
 use Rattle.line.specs.declared.Line.{Line}
@@ -15,6 +16,7 @@ use Rattle.steps.specs.Step.{callEvent}
 use Rattle.steps.specs.declared.Answer.{Answer}
 use Rattle.printout.specs.Run.{endsRun}
 use Rattle.number_text.specs.Stored.{Stored}
+use Rattle.event_text.specs.Reasons.{lastReason}
 use Rattle.trace_text.specs.TraceLine.{mostTraceLine, readWords, traceLine}
 use Rattle.trace_text.specs.Trace.{endText, refusalOf}
 use Rattle.trace_text.specs.declared.Traced.{Traced}
@@ -23,7 +25,7 @@ use Rattle.trace_text.specs.declared.Tracing.{Tracing}
 -- ---- where a trace stands
 -- before the first event
 abbrev pub startOf : Tracing
-startOf = record { line = unopened; at = 0; number = 0; counts = replicate 17 0 }
+startOf = record { line = unopened; at = 0; number = 0; counts = replicate (lastReason + 1) 0 }
 
 -- one answer more
 abbrev pub counted : Answer → List ℕ → List ℕ
@@ -77,9 +79,9 @@ pub record Within (from : Tracing) (sheet : List ℕ) : Type 0 where
   pub inside : from .at ≤ length sheet
   pub counts-within : allPass (λ (n : ℕ). leb n (from .number)) (from .counts) ≡ true
 
--- the end of a trace is not longer than this: four words, 64 lanes, and 17 counts
+-- the end of a trace is not longer than this: a line for each lane and each reason, and 256 bytes for the two others
 abbrev pub mostEnd : ℕ
-mostEnd = 4352
+mostEnd = mostLanes * 40 + lastReason * 96 + 256
 
 pub record StepReady (from : Tracing) (sheet out : List ℕ) : Type 0 where
   pub within : Within from sheet

@@ -17,6 +17,7 @@ use Rattle.steps.specs.declared.Answer.{Answer}
 use Rattle.printout.specs.Text.{ascii}
 use Rattle.printout.specs.Print.{decimal, words}
 use Rattle.printout.specs.Run.{endsRun}
+use Rattle.event_text.specs.Reasons.{lastReason}
 use Rattle.trace_text.specs.TraceLine.{readWords, refusalWords, rowOf, traceLine}
 
 -- ---- the events of a run
@@ -69,7 +70,7 @@ textsFrom f k (suc more) = f k ++ textsFrom f (suc k) more
 
 -- the refusals by number, with f k the count of each
 abbrev pub refusedLines : (ℕ → ℕ) → List ℕ
-refusedLines f = textsFrom (λ (k : ℕ). refusedLine k (f k)) 1 16
+refusedLines f = textsFrom (λ (k : ℕ). refusedLine k (f k)) 1 lastReason
 
 -- ---- the end: the size and the pointer, each lane that is not idle, and the counts: f 0 accepted, f k refused with number k
 abbrev pub phaseWord : Phase → List ℕ

@@ -3,6 +3,7 @@ use Prim.Native.Nat.{ℕ, _+_, _-_}
 use mathlib.Core.Bool.{cond}
 use mathlib.Core.List.{List, [], _∷_, _++_, map}
 use lib.ListN.{getD, length, replicate, take}
+use Rattle.limits.specs.Limits.{mostLanes}
 use Rattle.view.specs.declared.Place.{Place}
 use Rattle.line.specs.Line.{on, phaseNumber}
 use Rattle.line.specs.declared.Line.{Line}
@@ -12,6 +13,7 @@ use Rattle.steps.specs.Answer.{saidBy}
 use Rattle.steps.specs.declared.Answer.{Answer}
 use Rattle.printout.specs.Text.{ascii}
 use Rattle.printout.specs.Print.{answerWords, decimal}
+use Rattle.event_text.specs.Reasons.{reasonText}
 use Rattle.event_text.specs.Show.{eventWords}
 
 -- ---- columns
@@ -33,32 +35,9 @@ readWords at Reading.End = []
 readWords at (Reading.Refused k) = ascii "at byte" ∷ decimal at ∷ []
 
 -- ---- the answer
--- document 01, "Reasons for refusing", in few words, from number 1 on
-abbrev pub reasons : List (List ℕ)
-reasons =
-    ascii "line not sound"
-    ∷ ascii "kind not listed"
-    ∷ ascii "body cut short"
-    ∷ ascii "line not open"
-    ∷ ascii "line already open"
-    ∷ ascii "lanes not 1 to 64"
-    ∷ ascii "capacity out of range"
-    ∷ ascii "no such lane"
-    ∷ ascii "purpose or whence above 2"
-    ∷ ascii "view breaks a rule"
-    ∷ ascii "a lane is not idle"
-    ∷ ascii "a lane is gathered"
-    ∷ ascii "wrong phase or purpose"
-    ∷ ascii "no wake yet"
-    ∷ ascii "pointer out of range"
-    ∷ ascii "records do not fit"
-    ∷ []
-
-abbrev pub reasonOf : ℕ → List ℕ
-reasonOf number = getD ([] ∷ reasons) number []
-
+-- a refusal with its reason
 abbrev pub refusalWords : ℕ → List (List ℕ)
-refusalWords number = ascii "refused" ∷ (decimal number ++ ascii ":") ∷ reasonOf number ∷ []
+refusalWords number = ascii "refused" ∷ (decimal number ++ ascii ":") ∷ reasonText number ∷ []
 
 -- the answer as `linebook` prints it, and of a refusal its reason
 abbrev pub toldWords : Answer → List (List ℕ)
@@ -84,6 +63,6 @@ resultText a l = column 36 (joined (toldWords a)) ++ (rowOf l ++ tailOf (l .size
 abbrev pub traceLine : ℕ → List (List ℕ) → Answer → Line → List ℕ
 traceLine number read a l = column 4 (decimal number) ++ (column 39 (joined read) ++ resultText a l)
 
--- no line is longer than this
+-- no line is longer than this: a letter for each lane, and 736 bytes for all else
 abbrev pub mostTraceLine : ℕ
-mostTraceLine = 800
+mostTraceLine = mostLanes + 736

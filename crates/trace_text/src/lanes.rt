@@ -1,8 +1,9 @@
 // The lanes as a row of letters, and each that is not idle as a line.
-ghost use Prim.Native.Nat.{_+_, _≤_};
+ghost use Prim.Native.Nat.{_+_, _*_, _≤_};
 ghost use mathlib.Core.List.{[], _∷_};
 ghost use mathlib.Core.Path.{_≡_};
 ghost use lib.ListN.{length};
+ghost use Rattle.limits.specs.Limits.{mostLanes};
 ghost use Rattle.number_text.specs.Stored.{Stored};
 ghost use Rattle.printout.specs.Print.{words};
 ghost use Rattle.trace_text.specs.TraceLine.{letterOf, rowOf};
@@ -31,9 +32,9 @@ fn letter(phase: Phase) -> u8
     }
 }
 
-// How many letters a row has: one for each lane of the line, which has 64 at most.
+// How many letters a row has: one for each lane of the line, and no more than a line can have.
 fn row_length(line: Line) -> usize
-    ensures { λ r. ⌜ (r ≡ length (rowOf line)) × (r ≤ 64) ⌝ }
+    ensures { λ r. ⌜ (r ≡ length (rowOf line)) × (r ≤ mostLanes) ⌝ }
 {
     let lanes = line.lanes as usize;
     if MOST_LANES < lanes {
@@ -44,8 +45,8 @@ fn row_length(line: Line) -> usize
 
 // A letter for each lane of the line.
 pub fn put_row(out: &mut [u8], at: usize, line: Line) -> usize
-    requires { ⌜ at + 64 ≤ length (now out) ⌝ }
-    ensures { λ r. ⌜ Stored (rowOf line) (now (out .entry)) at (now (out .exit)) r × (r ≤ at + 64) ⌝ }
+    requires { ⌜ at + mostLanes ≤ length (now out) ⌝ }
+    ensures { λ r. ⌜ Stored (rowOf line) (now (out .entry)) at (now (out .exit)) r × (r ≤ at + mostLanes) ⌝ }
 {
     let count = row_length(line);
     let lane = line.lane;
@@ -89,8 +90,8 @@ fn put_lane(out: &mut [u8], at: usize, lane: u64, phase: Phase) -> usize
 
 // The lines of the lanes.
 pub fn put_lanes(out: &mut [u8], at: usize, line: Line) -> usize
-    requires { ⌜ at + 2560 ≤ length (now out) ⌝ }
-    ensures { λ r. ⌜ Stored (laneLines line) (now (out .entry)) at (now (out .exit)) r × (r ≤ at + 2560) ⌝ }
+    requires { ⌜ at + mostLanes * 40 ≤ length (now out) ⌝ }
+    ensures { λ r. ⌜ Stored (laneLines line) (now (out .entry)) at (now (out .exit)) r × (r ≤ at + mostLanes * 40) ⌝ }
 {
     let count = row_length(line);
     let lane = line.lane;

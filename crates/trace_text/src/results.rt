@@ -1,6 +1,7 @@
 // The end of a line: the answer, the lanes after it, the pointer and the size.
 ghost use Prim.Native.Nat.{_+_, _≤_};
 ghost use lib.ListN.{length};
+ghost use Rattle.limits.specs.Limits.{mostLanes};
 ghost use Rattle.number_text.specs.Stored.{Stored};
 ghost use Rattle.trace_text.specs.TraceLine.{resultText, tailOf};
 use crate::answers::put_told;
@@ -29,8 +30,8 @@ fn put_tail(out: &mut [u8], at: usize, size: u32, pointer: Place) -> usize
 
 // The answer, and what it left.
 pub fn put_result(out: &mut [u8], at: usize, answer: Answer, line: Line) -> usize
-    requires { ⌜ at + 240 ≤ length (now out) ⌝ }
-    ensures { λ r. ⌜ Stored (resultText answer line) (now (out .entry)) at (now (out .exit)) r × (r ≤ at + 240) ⌝ }
+    requires { ⌜ at + (mostLanes + 176) ≤ length (now out) ⌝ }
+    ensures { λ r. ⌜ Stored (resultText answer line) (now (out .entry)) at (now (out .exit)) r × (r ≤ at + (mostLanes + 176)) ⌝ }
 {
     let end = put_told(out, at, answer);
     let row = end_column(out, at, end, 36);

@@ -1,13 +1,15 @@
 // The end of a trace: the size and the pointer, the lanes that are not idle, and how many events were accepted and refused.
-ghost use Prim.Native.Nat.{_+_, _≤_, _<_};
+ghost use Prim.Native.Nat.{_+_, _*_, _≤_, _<_};
 ghost use lib.ListN.{getD, length};
 ghost use Rattle.number_text.specs.Stored.{Stored};
+ghost use Rattle.event_text.specs.Reasons.{lastReason};
 ghost use Rattle.trace_text.specs.Trace.{acceptedLine, endText, refusedLine, refusedLines};
 ghost use Rattle.trace_text.specs.Steps.{countIn, mostEnd};
 use crate::COUNTS;
 use crate::Tracing;
 use crate::answers::put_refusal;
 use crate::lanes::put_lanes;
+use event_text::LAST_REASON;
 use event_text::number;
 use event_text::word;
 use word_text::BLANK;
@@ -37,12 +39,12 @@ fn put_refused(out: &mut [u8], at: usize, refusal: u8, count: u64) -> usize
 
 // The refusals by number.
 fn put_all_refused(out: &mut [u8], at: usize, counts: [u64; COUNTS]) -> usize
-    requires { ⌜ at + 1536 ≤ length (now out) ⌝ }
-    ensures { λ r. ⌜ Stored (refusedLines (λ k. getD counts k 0)) (now (out .entry)) at (now (out .exit)) r × (r ≤ at + 1536) ⌝ }
+    requires { ⌜ at + lastReason * 96 ≤ length (now out) ⌝ }
+    ensures { λ r. ⌜ Stored (refusedLines (λ k. getD counts k 0)) (now (out .entry)) at (now (out .exit)) r × (r ≤ at + lastReason * 96) ⌝ }
 {
     let mut end = at;
     let mut refusal: u8 = 1;
-    while refusal < 17 {
+    while refusal <= LAST_REASON {
         let i = refusal as usize;
         end = put_refused(out, end, refusal, counts[i]);
         refusal += 1;
