@@ -176,26 +176,27 @@ fn is_too_long(sheet: &[u8]) -> bool {
     true
 }
 
-// The lines of a sheet; false where it has bytes that are no event, and nothing was told of it yet.
-fn show(sheet: &[u8]) -> bool {
+// The lines of a sheet, and a message where it has bytes that are no event.
+fn show(sheet: &[u8]) {
     if is_too_long(sheet) {
-        return true;
+        return;
     }
     if print_events(sheet) {
-        return true;
+        return;
     }
-    is_notation(sheet)
+    if !is_notation(sheet) {
+        tell(b"the sheet has bytes that are no event\n");
+    }
 }
 
-// The trace of a sheet's run; false as `show`.
-fn trace(sheet: &[u8]) -> bool {
+// The trace of a sheet's run. Bytes that are no event are an answer of the run, as in linebook, and no fault unless they are notation.
+fn trace(sheet: &[u8]) {
     if is_too_long(sheet) {
-        return true;
+        return;
     }
-    if print_trace(sheet) {
-        return true;
+    if !print_trace(sheet) {
+        is_notation(sheet);
     }
-    is_notation(sheet)
 }
 
 // What is to be done with standard input.
@@ -205,32 +206,29 @@ enum Task {
     Trace,
 }
 
-// Does it with the first bytes of a buffer; false as `show`.
-fn work_on(task: Task, space: &[u8], count: usize) -> bool
+// Does it with the first bytes of a buffer.
+fn work_on(task: Task, space: &[u8], count: usize)
     requires { ⌜ count ≤ length (now space) ⌝ }
 {
     let text = &space[..count];
     match task {
-        Task::Bytes => {
-            print_bytes(text);
-            true
-        }
+        Task::Bytes => print_bytes(text),
         Task::Show => show(text),
         Task::Trace => trace(text),
     }
 }
 
-// Does it with standard input: one byte more than the longest text is read, to tell a longer one. False as `show`.
-// A function of this size with two callers is not inlined, so that its buffers are taken only after `main` has looked at the stack
+// Does it with standard input: one byte more than the longest text is read, to tell a longer one.
+// A function of this size with two callers is not inlined, so that its buffers are taken only after its callers have looked at the stack
 // (tests/programs).
-fn work(task: Task) -> bool {
+fn work(task: Task) {
     let mut space = text_buffer();
     let input = standard_io::read_input(&mut space);
     let Input::Length(count) = input else {
         os::fail(b"sheet: cannot read standard input");
-        return true;
+        return;
     };
-    work_on(task, &space, count)
+    work_on(task, &space, count);
 }
 
 // Whether there is stack enough for `work`.
@@ -238,31 +236,18 @@ fn has_stack() -> bool {
     standard_io::has_stack(b"sheet", NEEDED_STACK)
 }
 
-// Shows standard input.
-fn show_input() {
-    if !has_stack() {
-        return;
-    }
-    if !work(Task::Show) {
-        tell(b"the sheet has bytes that are no event\n");
-    }
-}
-
-// Traces standard input. Bytes that are no event are an answer of the run, as in linebook, and no fault.
-fn trace_input() {
-    if has_stack() {
-        work(Task::Trace);
-    }
-}
-
 // What the one argument asks for; false where it is no word that is known.
 fn is_done() -> bool {
     if is_word(b"show") {
-        show_input();
+        if has_stack() {
+            work(Task::Show);
+        }
         return true;
     }
     if is_word(b"trace") {
-        trace_input();
+        if has_stack() {
+            work(Task::Trace);
+        }
         return true;
     }
     if is_word(b"version") {
