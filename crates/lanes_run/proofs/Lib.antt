@@ -4,4 +4,5 @@ pub mod Stores
 pub mod Ready
 pub mod Enters
 pub mod Turns
+pub mod Waits
 pub mod Refusals

@@ -6,7 +6,7 @@ use mathlib.Core.List.{List, [], _∷_}
 use native.Mathlib.Omega.{arith}
 use lib.Dec.{eqb}
 use lib.ListN.{drop, getD, length, set}
-use borrow.Author.Tests.{eqb-false, eqb-true}
+use borrow.Author.Tests.{eqb-false, eqb-true, not-true}
 use Rattle.limits.specs.Limits.{mostLanes}
 use Rattle.lists.proofs.Tests.{by-test}
 use Rattle.view.specs.declared.Place.{Place}
@@ -36,6 +36,7 @@ use Rattle.changes.specs.declared.Change.{Change}
 use Rattle.changes.specs.declared.Seen.{Seen}
 use Rattle.changes.proofs.Steps.{entry-is, lane-below}
 use Rattle.scopes.specs.Scope.{laneEvent}
+use Rattle.scopes.specs.declared.LaneCall.{LaneCall}
 use Rattle.call_head.specs.Head.{Headed, restOf}
 use Rattle.call_head.specs.declared.Head.{Head}
 use Rattle.call_head.proofs.Heads.{fields-there, headed-read}
@@ -52,14 +53,29 @@ use Rattle.kind_text.specs.Put.{Put}
 use Rattle.sheet_calls.specs.Calls.{Ran, RanCall, RanEnter, RanEntered, enterChange, enteredWith, isComplete, isRefusal}
 use Rattle.sheet_calls.specs.declared.Called.{Called}
 use Rattle.sheet_calls.specs.declared.Caller.{Caller}
-use Rattle.lanes_run.specs.Parts.{Going, lineNow}
+use Rattle.trace.proofs.Seen.{laneFrom}
+use Rattle.wait_counts.specs.Counts.{counted}
+use Rattle.wait_counts.proofs.Answers.{refused-count}
+use Rattle.lanes_run.specs.Parts.{Advanced, Going, lineNow}
 use Rattle.lanes_run.proofs.Going.{good-state, goes-on}
+use Rattle.lanes_run.proofs.Waits.{lane-counted}
 use Rattle.lanes_run.proofs.Stores.{none-called, none-counts, refused-called, stored-shaped, storedLine, woken-called, woken-counts, woken-shaped}
 use Rattle.lanes_run.proofs.Enters.{complete-called, enter-missing, entered-is, gathered-called, gathered-counts}
 
 -- a lane is woken or none is
 lane-or-none : {X : Type 0} {w : ℕ} → Wakes.Lane w ≡ Wakes.None → X
 lane-or-none e = let z : _≡_ {A = ℕ} 0 1 = cc in absurd (omega arith)
+
+-- the lane that an event names
+lane-named : (i d : ℕ) (call : LaneCall) → laneFrom (laneEvent i call) d ≡ i
+lane-named i d (LaneCall.Want purpose) = refl
+lane-named i d LaneCall.Receive = refl
+lane-named i d (LaneCall.Take c) = refl
+lane-named i d (LaneCall.Write content) = refl
+lane-named i d LaneCall.Read = refl
+lane-named i d (LaneCall.Put k content) = refl
+lane-named i d (LaneCall.Look k) = refl
+lane-named i d LaneCall.Free = refl
 
 -- starting the lanes keeps the arrays' lengths
 started-length : (k : ℕ) (ls : List Lane) → length (started k ls) ≡ length ls
@@ -70,10 +86,14 @@ started-length k (x ∷ xs) = rw (started-length _ xs)
 started-shaped : (l : Line) (k : ℕ) → Shaped l → Shaped (withLanes l (started k (l .lane)))
 started-shaped l k s = record { lanes-length = started-length k (l .lane) ∙ s .lanes-length; flags-length = s .flags-length; blocks-length = s .blocks-length }
 
+-- an event's head stands in the sheet
+pub headed-inside : {sheet : List ℕ} {at : ℕ} {h : Head} → Headed sheet at h → at < length sheet
+headed-inside H = omega (arith, got (H .fields) .past, H .room)
+
 -- a turn by a call of a lane: where the run stands, the call's head, what it sees, its number stored, and what it gives
 pub record Turn (sheet : List ℕ) (x₀ : State) (out₀ : List ℕ) (from so-far first : ℕ) (l : Line) (book out : List ℕ) (at len number : ℕ)
-    (h : Head) (s : Seen) (counts : LaneCounts) (r : Called) (book′ out′ : List ℕ) : Type 0 where
-  pub going : Going sheet x₀ out₀ from so-far first l book out at len number
+    (h : Head) (s : Seen) (counts : LaneCounts) (r : Called) (book′ out′ waits₀ waits : List ℕ) : Type 0 where
+  pub advanced : Advanced sheet x₀ out₀ waits₀ from so-far first l book out waits at len number
   pub small : number < 18446744073709551616
   pub headed : Headed sheet at h
   pub sees : s ≡ seenOf l (entryOf (h .lane))
@@ -85,10 +105,10 @@ pub record Turn (sheet : List ℕ) (x₀ : State) (out₀ : List ℕ) (from so-f
   pub same-book : length book′ ≡ length book
   pub same-out : length out′ ≡ length out
 
-module _ {sheet : List ℕ} {x₀ : State} {out₀ : List ℕ} {from so-far first : ℕ} {l : Line} {book out : List ℕ} {at len number : ℕ} {h : Head} {s : Seen} {counts : LaneCounts} {r : Called} {book′ out′ : List ℕ}
-    (T : Turn sheet x₀ out₀ from so-far first l book out at len number h s counts r book′ out′) where
+module _ {sheet : List ℕ} {x₀ : State} {out₀ : List ℕ} {from so-far first : ℕ} {l : Line} {book out : List ℕ} {at len number : ℕ} {h : Head} {s : Seen} {counts : LaneCounts} {r : Called} {book′ out′ waits₀ waits : List ℕ}
+    (T : Turn sheet x₀ out₀ from so-far first l book out at len number h s counts r book′ out′ waits₀ waits) where
   G : Going sheet x₀ out₀ from so-far first l book out at len number
-  G = T .going
+  G = T .advanced .going
 
   H : Headed sheet at h
   H = T .headed
@@ -105,15 +125,26 @@ module _ {sheet : List ℕ} {x₀ : State} {out₀ : List ℕ} {from so-far firs
   abbrev start : ℕ
   start = T .start
 
+  -- the run has gone on, and the answer is counted
   abbrev After : Line → Type 0
-  After line′ = Going sheet x₀ out₀ from so-far first line′ book′ out′ (r .next) (r .end) (number + 1)
+  After line′ = Advanced sheet x₀ out₀ waits₀ from so-far first line′ book′ out′ (counted waits (entryOf (h .lane)) (r .change .answer)) (r .next) (r .end) (number + 1)
 
   -- an event that was read, with its answer and what it leaves
-  on : (e : Event) → readAt sheet at ≡ Reading.Event e (record { at = r .next }) → Put (r .change .answer) mid start out′ (r .end) → (line′ : Line) → Shaped line′
+  on : (e : Event) → ((d : ℕ) → laneFrom e d ≡ h .lane) → readAt sheet at ≡ Reading.Event e (record { at = r .next }) → Put (r .change .answer) mid start out′ (r .end) → (line′ : Line) → Shaped line′
       → callEvent (stateOf l book) e ≡ leaves (r .change .answer) line′ book′ → After line′
-  on e read P line′ shaped called =
-      goes-on sheet x₀ out₀ from so-far first l book out at len number G e (record { at = r .next }) read (r .change .answer) line′ book′ called shaped
-      out′ (r .end) (answer-line (r .change .answer) (T .put) (P .text)) (omega (arith, P .short, T .put .ends, few-digits 19 number (omega (arith, T .small)))) (T .same-book) (T .same-out) (r .next) refl
+  on e named read P line′ shaped called = record {
+      going = goes-on sheet x₀ out₀ from so-far first l book out at len number G e (record { at = r .next }) read (r .change .answer) line′ book′ called shaped
+      out′ (r .end) (answer-line (r .change .answer) (T .put) (P .text)) (omega (arith, P .short, T .put .ends, few-digits 19 number (omega (arith, T .small)))) (T .same-book) (T .same-out) (r .next) refl;
+      counted = lane-counted sheet x₀ waits₀ from first l book waits at number (T .advanced .counted) (good-state G) (G .numbered) e (record { at = r .next }) read (r .change .answer) line′ book′ called (h .lane) named;
+    }
+
+  -- the same after a refusal, which counts nothing
+  abbrev Kept : Type 0
+  Kept = Advanced sheet x₀ out₀ waits₀ from so-far first l book′ out′ waits (r .next) (r .end) (number + 1)
+
+  kept : isRefusal (r .change .answer) ≡ true → After l → Kept
+  kept e went =
+      subst (λ (w : List ℕ). Advanced sheet x₀ out₀ waits₀ from so-far first l book′ out′ w (r .next) (r .end) (number + 1)) (refused-count waits (entryOf (h .lane)) (r .change .answer) (not-true _ e)) went
 
   -- ---- 02 to 09
   module _ (apart : h .kind ≡ 10 → ⊥) where
@@ -124,15 +155,16 @@ module _ {sheet : List ℕ} {x₀ : State} {out₀ : List ℕ} {from so-far firs
     lane-read = headed-read H (lane-ran .fields) ∙ rw (lane-ran .event)
 
     lane-on : (line′ : Line) → Shaped line′ → callEvent (stateOf l book) (laneEvent (h .lane) (lane-ran .call)) ≡ leaves (r .change .answer) line′ book′ → After line′
-    lane-on line′ shaped called = on (laneEvent (h .lane) (lane-ran .call)) lane-read (lane-ran .text) line′ shaped called
+    lane-on line′ shaped called = on (laneEvent (h .lane) (lane-ran .call)) (λ d. lane-named (h .lane) d (lane-ran .call)) lane-read (lane-ran .text) line′ shaped called
 
     lanes-fit : l .lanes ≤ mostLanes
     lanes-fit = good-state G .facts .base .lanes-fit
 
-    lane-refused : r .refused ≡ true → After l
+    lane-refused : r .refused ≡ true → Kept
     lane-refused e =
-        lane-on l (G .shaped)
-        (refused-called l book (G .shaped) lanes-fit (G .is-sound) (h .lane) (lane-ran .call) s sees (r .change) book′ (lane-ran .change) (lane-ran .puts) (sym (lane-ran .refused) ∙ e))
+        kept (sym (lane-ran .refused) ∙ e)
+        (lane-on l (G .shaped)
+        (refused-called l book (G .shaped) lanes-fit (G .is-sound) (h .lane) (lane-ran .call) s sees (r .change) book′ (lane-ran .change) (lane-ran .puts) (sym (lane-ran .refused) ∙ e)))
 
     lane-none : (i : ℕ) → i ≡ entryOf (h .lane) → r .change .wakes ≡ Wakes.None → After (storedLine l i (r .change))
     lane-none i own none =
@@ -164,18 +196,19 @@ module _ {sheet : List ℕ} {x₀ : State} {out₀ : List ℕ} {from so-far firs
     lanes-same = ap (λ (v : Seen). v .lanes) sees
 
     -- refused by the tests of the lane
-    enter-lane-missing : (missingLane (s .lanes) (h .lane) ≡ 0 → ⊥) → After l
+    enter-lane-missing : (missingLane (s .lanes) (h .lane) ≡ 0 → ⊥) → Kept
     enter-lane-missing some =
         let refused = entered-ran .missing some in
         let rest = fieldsIn (restOf (h .kind)) (drop (h .to) sheet) in
         let answer : r .change .answer ≡ Answer.Refused (missingLane (s .lanes) (h .lane)) = ap (λ (c : Change). c .answer) (refused .change) in
         let past : h .to + total (restOf (h .kind)) ≡ r .next = rw ten (sym (refused .past)) in
         let is : eventOf (h .kind) (h .lane ∷ rest) ≡ Event.Enter (h .lane) (getD rest 0 0) = ap (λ (k : ℕ). eventOf k (h .lane ∷ rest)) ten ∙ enter-of (h .lane) rest in
-        on (Event.Enter (h .lane) (getD rest 0 0)) (headed-read H (fields-there (restOf (h .kind)) sheet (h .to) (H .room) ∙ ap (values rest) past) ∙ rw is)
+        kept (ap isRefusal answer)
+        (on (Event.Enter (h .lane) (getD rest 0 0)) (λ d. refl) (headed-read H (fields-there (restOf (h .kind)) sheet (h .to) (H .room) ∙ ap (values rest) past) ∙ rw is)
         (subst (λ (a : Answer). Put a mid start out′ (r .end)) (sym answer) (refused .put)) l (G .shaped)
         (enter-missing l book (G .is-sound) (h .lane) (getD rest 0 0) (λ z. some (ap (λ (n : ℕ). missingLane n (h .lane)) lanes-same ∙ z))
         ∙ ap (λ (n : ℕ). leaves (Answer.Refused (missingLane n (h .lane))) l book) (sym lanes-same)
-        ∙ ap₂ (λ (a : Answer) (b : List ℕ). leaves a l b) (sym answer) (sym (entered-ran .kept)))
+        ∙ ap₂ (λ (a : Answer) (b : List ℕ). leaves a l b) (sym answer) (sym (entered-ran .kept))))
 
     -- past them
     module _ (none : missingLane (s .lanes) (h .lane) ≡ 0) where
@@ -197,13 +230,13 @@ module _ {sheet : List ℕ} {x₀ : State} {out₀ : List ℕ} {from so-far firs
           ∙ ap (λ (k : ℕ). Reading.Event (eventOf k (h .lane ∷ enter-ran .count ∷ [])) (record { at = r .next })) ten
 
       enter-on : (line′ : Line) → Shaped line′ → callEvent (stateOf l book) (Event.Enter (h .lane) (enter-ran .count)) ≡ leaves (r .change .answer) line′ book → After line′
-      enter-on line′ shaped called = on (Event.Enter (h .lane) (enter-ran .count)) enter-read (enter-ran .text) line′ shaped (called ∙ ap (leaves (r .change .answer) line′) (sym (entered-ran .kept)))
+      enter-on line′ shaped called = on (Event.Enter (h .lane) (enter-ran .count)) (λ d. refl) enter-read (enter-ran .text) line′ shaped (called ∙ ap (leaves (r .change .answer) line′) (sym (entered-ran .kept)))
 
       -- refused past them
-      refused-by : (x : Entered) → comes ≡ x → r .refused ≡ true → After l
+      refused-by : (x : Entered) → comes ≡ x → r .refused ≡ true → Kept
       refused-by (Entered.Refused k) e told =
           let answer : r .change .answer ≡ Answer.Refused k = ap (λ (v : Called). v .change .answer) ran-is ∙ ap (λ (x : Entered). enterChange s (enter-ran .count) (counts .total + enter-ran .count) x .answer) e in
-          enter-on l (G .shaped) (enter-refused l book (G .shaped) (G .is-sound) (h .lane) below (enter-ran .count) k e ∙ ap (λ (a : Answer). leaves a l book) (sym answer))
+          kept (ap isRefusal answer) (enter-on l (G .shaped) (enter-refused l book (G .shaped) (G .is-sound) (h .lane) below (enter-ran .count) k e ∙ ap (λ (a : Answer). leaves a l book) (sym answer)))
       refused-by Entered.Gathered e told = absurd (false≢true (sym (ap (λ (v : Called). v .refused) ran-is ∙ ap (λ (x : Entered). isRefusal (enterChange s (enter-ran .count) (counts .total + enter-ran .count) x .answer)) e) ∙ told))
       refused-by Entered.Complete e told = absurd (false≢true (sym (ap (λ (v : Called). v .refused) ran-is ∙ ap (λ (x : Entered). isRefusal (enterChange s (enter-ran .count) (counts .total + enter-ran .count) x .answer)) e) ∙ told))
 
@@ -252,7 +285,7 @@ module _ {sheet : List ℕ} {x₀ : State} {out₀ : List ℕ} {from so-far firs
   not-missing ten told = by-missing (λ some. absurd (false≢true (sym told ∙ entered-ran ten .missing some .told))) (λ none. none)
 
   -- a refusal
-  pub refused-on : r .refused ≡ true → After l
+  pub refused-on : r .refused ≡ true → Kept
   refused-on told = by-ten (λ apart. lane-refused apart told) (λ ten. by-missing (enter-lane-missing ten) (λ none. refused-by ten none (comes ten none) refl told))
 
   module _ (i : ℕ) (own : i ≡ entryOf (h .lane)) (told : r .refused ≡ false) where
@@ -306,7 +339,7 @@ module _ {sheet : List ℕ} {x₀ : State} {out₀ : List ℕ} {from so-far firs
 
   -- the next event stands further on, from an index of the sheet
   pub moves : (at < r .next) × (at < length sheet)
-  moves = (further, omega (arith, got (H .fields) .past, H .room))
+  moves = (further, headed-inside H)
 
 -- ---- names of the run's variables for what a turn leaves
 pub ran-as : {h : Head} {sheet : List ℕ} {c : Caller} {counts : LaneCounts} {t : Tiling} (v : View) {records flags book out : List ℕ} {at : ℕ} {r : Called} {book′ out′ : List ℕ}
@@ -314,9 +347,19 @@ pub ran-as : {h : Head} {sheet : List ℕ} {c : Caller} {counts : LaneCounts} {t
     → RanCall (c .head) sheet (c .seen) (c .counts) t records flags book out at r book′ out′ → RanCall h sheet (c .seen) counts (tilingOf v) (recordsOf v) flags book out at r book′ out′
 ran-as v head counted tiles table R = rw (← head, ← counted, ← tiles, ← table) R
 
-pub turned : {sheet : List ℕ} {x₀ : State} {out₀ : List ℕ} {from so-far first : ℕ} (line : Line) {book out flags book′ out′ flags′ : List ℕ} {size at len size′ at′ len′ n : ℕ} {pointer pointer′ : Place}
+-- a turn that leaves the counts of waiting as they are, and one that counts the answer of a lane
+pub turned : {sheet : List ℕ} {x₀ : State} {out₀ waits₀ : List ℕ} {from so-far first : ℕ} (line : Line) {book out waits flags book′ out′ waits′ flags′ : List ℕ} {size at len size′ at′ len′ n : ℕ} {pointer pointer′ : Place}
     {lanes lanes′ : List Lane} {counts counts′ : LaneCounts} {number : LineNumber}
-    → book ≡ book′ → out ≡ out′ → size ≡ size′ → pointer ≡ pointer′ → lanes ≡ lanes′ → flags ≡ flags′ → counts ≡ counts′ → at ≡ at′ → len ≡ len′
-    → Going sheet x₀ out₀ from so-far first (lineNow line size′ pointer′ lanes′ flags′) book′ out′ at′ len′ n → counts′ ≡ countsOf lanes′ → Keeps n number
-    → (Going sheet x₀ out₀ from so-far first (lineNow line size pointer lanes flags) book out at len (numberIn number)) × (counts ≡ countsOf lanes) × Keeps (numberIn number) number
-turned line a b c d e f g i j going counted keeps = (rw (a, b, c, d, e, f, i, j, keeps-number keeps) going, g ∙ counted ∙ ap countsOf (sym e), keeps-own keeps)
+    → book ≡ book′ → out ≡ out′ → waits ≡ waits′ → size ≡ size′ → pointer ≡ pointer′ → lanes ≡ lanes′ → flags ≡ flags′ → counts ≡ counts′ → at ≡ at′ → len ≡ len′
+    → Advanced sheet x₀ out₀ waits₀ from so-far first (lineNow line size′ pointer′ lanes′ flags′) book′ out′ waits′ at′ len′ n → counts′ ≡ countsOf lanes′ → Keeps n number
+    → (Advanced sheet x₀ out₀ waits₀ from so-far first (lineNow line size pointer lanes flags) book out waits at len (numberIn number)) × (counts ≡ countsOf lanes) × Keeps (numberIn number) number
+turned line a b w c d e f g i j advanced same keeps = (rw (a, b, w, c, d, e, f, i, j, keeps-number keeps) advanced, g ∙ same ∙ ap countsOf (sym e), keeps-own keeps)
+
+pub turned-counted : {sheet : List ℕ} {x₀ : State} {out₀ waits₀ : List ℕ} {from so-far first : ℕ} (line : Line) {book out waits flags book′ out′ waits′ flags′ : List ℕ} {size at len size′ at′ len′ n : ℕ} {pointer pointer′ : Place}
+    {lanes lanes′ : List Lane} {counts counts′ : LaneCounts} {number : LineNumber} (before : List ℕ) (answer : Answer) {i k : ℕ}
+    → book ≡ book′ → out ≡ out′ → waits ≡ waits′ → size ≡ size′ → pointer ≡ pointer′ → lanes ≡ lanes′ → flags ≡ flags′ → counts ≡ counts′ → at ≡ at′ → len ≡ len′
+    → waits′ ≡ counted before i answer → i ≡ k
+    → Advanced sheet x₀ out₀ waits₀ from so-far first (lineNow line size′ pointer′ lanes′ flags′) book′ out′ (counted before k answer) at′ len′ n → counts′ ≡ countsOf lanes′ → Keeps n number
+    → (Advanced sheet x₀ out₀ waits₀ from so-far first (lineNow line size pointer lanes flags) book out waits at len (numberIn number)) × (counts ≡ countsOf lanes) × Keeps (numberIn number) number
+turned-counted line before answer a b w c d e f g i′ j v own advanced same keeps =
+    turned line a b (w ∙ v ∙ ap (λ (m : ℕ). counted before m answer) own) c d e f g i′ j advanced same keeps

@@ -5,6 +5,7 @@ use mathlib.Core.List.{List, _++_}
 use mathlib.Core.Path.{_≡_}
 use lib.Dec.{eqb}
 use lib.ListN.{length}
+use Rattle.limits.specs.Limits.{mostSheet}
 use Rattle.view.specs.declared.Place.{Place}
 use Rattle.line.specs.Line.{Shaped}
 use Rattle.line.specs.Sound.{sound}
@@ -12,6 +13,7 @@ use Rattle.line.specs.declared.Lane.{Lane}
 use Rattle.line.specs.declared.Line.{Line}
 use Rattle.lane_tests.specs.Rules.{countsOf}
 use Rattle.lane_tests.specs.declared.tallies.LaneCounts.{LaneCounts}
+use Rattle.waitlist.specs.NextLane.{nextLane}
 use Rattle.event.specs.ReadWrite.{readAt}
 use Rattle.event.specs.declared.Cursor.{Cursor}
 use Rattle.event.specs.declared.Event.{Event}
@@ -27,6 +29,10 @@ use Rattle.line_calls.specs.Refusal.{lineRefusal}
 use Rattle.call_head.specs.Head.{NoLane}
 use Rattle.call_head.specs.declared.Head.{Head}
 use Rattle.sheet_calls.specs.declared.Caller.{Caller}
+use Rattle.trace.specs.SheetCalls.{callsFrom}
+use Rattle.trace.specs.Trace.{Entry, entries}
+use Rattle.wait_counts.specs.Counting.{Counting, SameTotals}
+use Rattle.wait_counts.specs.Counts.{releasesIn}
 use Rattle.printout.specs.Print.{answerLines, endLine}
 use Rattle.printout.specs.Run.{Ran, runOn}
 use Rattle.number_text.specs.Stored.{Stored}
@@ -73,18 +79,36 @@ pub record Going (sheet : List ℕ) (x₀ : State) (out₀ : List ℕ) (from so-
   pub book-length : length book ≡ length (x₀ .book)
   pub out-length : length out ≡ length out₀
 
--- what a part needs where it begins: a sound line, an index of the sheet, and room for the text
-pub record Begun (s : Standing) (book sheet out : List ℕ) : Type 0 where
+-- the calls that are left of the sheet at an index, past `number` events, with their answers
+abbrev pub entriesLeft : State → List ℕ → ℕ → ℕ → List Entry
+entriesLeft x sheet at number = entries nextLane x (callsFrom (length sheet - number) sheet at)
+
+-- the same run, with its counts of waiting: with what is left of the sheet they count what they did at the start
+pub record Counted (sheet : List ℕ) (x₀ : State) (waits₀ : List ℕ) (from first : ℕ) (line : Line) (book waits : List ℕ) (at number : ℕ) : Type 0 where
+  pub counting : Counting (stateOf line book) waits
+  pub few : releasesIn waits ≤ number
+  pub totals : SameTotals waits (entriesLeft (stateOf line book) sheet at number) waits₀ (entriesLeft x₀ sheet from first)
+
+-- the run and its counts
+pub record Advanced (sheet : List ℕ) (x₀ : State) (out₀ waits₀ : List ℕ) (from so-far first : ℕ) (line : Line) (book out waits : List ℕ) (at len number : ℕ) : Type 0 where
+  pub going : Going sheet x₀ out₀ from so-far first line book out at len number
+  pub counted : Counted sheet x₀ waits₀ from first line book waits at number
+
+-- what a part needs where it begins: a sound line, an index of a sheet that is not too long, room for the text, and counts that fit
+pub record Begun (s : Standing) (book sheet out waits : List ℕ) : Type 0 where
   pub shaped : Shaped (s .line)
   pub is-sound : sound (s .line) (length book) ≡ true
   pub inside : s .at ≤ length sheet
   pub numbered : s .number ≤ s .at
   pub short : s .length ≤ mostLine * s .at
   pub room : mostText (length sheet) ≤ length out
+  pub counting : Counting (stateOf (s .line) book) waits
+  pub few : releasesIn waits ≤ s .number
+  pub bounded : length sheet ≤ mostSheet
 
 -- what it leaves: the run has gone on, and no lane calls at the index where it stops
-pub record Went (s : Standing) (book sheet out : List ℕ) (r : Standing) (book-left out-left : List ℕ) : Type 0 where
-  pub going : Going sheet (stateOf (s .line) book) out (s .at) (s .length) (s .number) (r .line) book-left out-left (r .at) (r .length) (r .number)
+pub record Went (s : Standing) (book sheet out waits : List ℕ) (r : Standing) (book-left out-left waits-left : List ℕ) : Type 0 where
+  pub part : Advanced sheet (stateOf (s .line) book) out waits (s .at) (s .length) (s .number) (r .line) book-left out-left waits-left (r .at) (r .length) (r .number)
   pub stops : NoLane sheet (r .at)
 
 -- ---- a call on the whole line that is refused

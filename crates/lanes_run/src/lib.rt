@@ -38,6 +38,7 @@ use steps::Answer;
 use tiling::Tiling;
 use tiling::records_of;
 use view::Place;
+use wait_counts::count_answer;
 use waitlist::Wakes;
 
 // Where a run stands: the line, the index of the next event, the length of the text, and how many events there were.
@@ -189,11 +190,17 @@ fn start_lanes(lanes: [Lane; MOST_LANES], n: u8, pointer: u32) -> Started
     Started { lane, counts }
 }
 
-// The calls of lanes, and the refused ones on the whole line, as far as there are such. What they change of the line stays in locals, and the view's records in a
+// The calls of lanes, and the refused ones on the whole line, as far as there are such; `waits` counts the waiting. What they change of the line stays in locals, and the view's records in a
 // table, which is made here: the view stays as it is.
-pub fn run_lanes(from: Standing, book: &mut [u8], sheet: &[u8], out: &mut [u8]) -> Standing
-    requires { ⌜ Begun from (now book) (now sheet) (now out) ⌝ }
-    ensures { λ r. ⌜ Went from (now (book .entry)) (now (sheet .entry)) (now (out .entry)) r (now (book .exit)) (now (out .exit)) ⌝ }
+pub fn run_lanes(
+    from: Standing,
+    book: &mut [u8],
+    sheet: &[u8],
+    out: &mut [u8],
+    waits: &mut [u64],
+) -> Standing
+    requires { ⌜ Begun from (now book) (now sheet) (now out) (now waits) ⌝ }
+    ensures { λ r. ⌜ Went from (now (book .entry)) (now (sheet .entry)) (now (out .entry)) (now (waits .entry)) r (now (book .exit)) (now (out .exit)) (now (waits .exit)) ⌝ }
 {
     let line = from.line;
     let view = line.view;
@@ -221,6 +228,8 @@ pub fn run_lanes(from: Standing, book: &mut [u8], sheet: &[u8], out: &mut [u8]) 
                 let before = pointer;
                 let change = called.change;
                 let changed = change.phase;
+                let answer = change.answer;
+                count_answer(waits, i, answer);
                 counts = called.counts;
                 size = change.size;
                 pointer = change.pointer;

@@ -1,2 +1,3 @@
 -- Calls with their answers.
 pub mod Trace
+pub mod SheetCalls

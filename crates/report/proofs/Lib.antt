@@ -1,0 +1,2 @@
+-- The laws of the report of waiting.
+pub mod Rows

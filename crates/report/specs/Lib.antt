@@ -1,0 +1,4 @@
+-- The report of waiting.
+pub mod Rows
+pub mod Growth
+pub mod Lent

@@ -1,0 +1,3 @@
+-- What a run counts of waiting.
+pub mod Counts
+pub mod Counting
