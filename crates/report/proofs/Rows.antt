@@ -1,5 +1,5 @@
 -- Rows are joined in any order, and no wait joined to a row leaves it as it is.
-use Prim.Native.Nat.{ℕ, _+_, max}
+use Prim.Native.Nat.{ℕ}
 use mathlib.Core.Path.{_≡_}
 use native.Mathlib.Omega.{arith}
 use Rattle.report.specs.declared.Row.{Row}
