@@ -1,0 +1,62 @@
+-- The rows of a report after a run: each is the row lent with the run's waits of that lane, or of all; two runs over one report add up, in either order.
+use Prim.Native.Nat.{ℕ, zero, suc, _+_, _<_}
+use mathlib.Core.Path.{_≡_, refl, sym, ap, _∙_}
+use mathlib.Core.Bool.{true, false}
+use mathlib.Core.List.{List, [], _∷_}
+use native.Mathlib.Omega.{arith}
+use native.Mathlib.Nat.{zero-add}
+use lib.ListN.{getD, length}
+use Rattle.steps.specs.State.{State}
+use Rattle.trace.specs.Trace.{Entry}
+use Rattle.trace.specs.SheetCalls.{sheetEntries}
+use Rattle.report.specs.declared.Report.{Report}
+use Rattle.report.specs.declared.Row.{Row}
+use Rattle.report.specs.Rows.{emptyRow, joined}
+use Rattle.report.specs.Growth.{allWaits, grown, grownFrom, laneWaits}
+use Rattle.report.specs.Lent.{cannotCount, gets17, isSound, reportAfter}
+use Rattle.report.proofs.Rows.{joined-assoc, joined-comm}
+
+abbrev pub rowFor : Report → ℕ → Row
+rowFor report i = getD (report .lane) i emptyRow
+
+-- ---- each row
+grown-from : (rows : List Row) (first i : ℕ) (es : List Entry) → i < length rows → getD (grownFrom first rows es) i emptyRow ≡ joined (getD rows i emptyRow) (laneWaits (first + i) es)
+unfolding grownFrom
+grown-from [] first i es h = absurd (omega arith)
+grown-from (r ∷ rows) first zero es h = let e : first + 0 ≡ first = omega arith in rw e
+grown-from (r ∷ rows) first (suc i) es h = let e : first + suc i ≡ suc first + i = omega arith in rw e (grown-from rows (suc first) i es (omega arith))
+
+from-length : (rows : List Row) (first : ℕ) (es : List Entry) → length (grownFrom first rows es) ≡ length rows
+unfolding grownFrom
+from-length [] first es = refl
+from-length (r ∷ rows) first es = ap suc (from-length rows (suc first) es)
+
+pub lane-row-grows : (report : Report) (es : List Entry) (i : ℕ) → i < length (report .lane) → rowFor (grown report es) i ≡ joined (rowFor report i) (laneWaits i es)
+lane-row-grows report es i h = rw (zero-add i) at (grown-from (report .lane) 0 i es h)
+
+-- ---- after a run that gets neither 1 nor 17
+pub run-grows : (x : State) (report : Report) (sheet : List ℕ) → isSound x ≡ true → gets17 x report sheet ≡ false → reportAfter x report sheet ≡ grown report (sheetEntries x sheet)
+run-grows x report sheet s f = let c : cannotCount report sheet ≡ false = rw s at f in rw (s, c)
+
+-- ---- two runs
+module _ (report : Report) (a b : List Entry) where
+  pub lane-rows-add-up : (i : ℕ) → i < length (report .lane) → rowFor (grown (grown report a) b) i ≡ joined (rowFor report i) (joined (laneWaits i a) (laneWaits i b))
+  lane-rows-add-up i h =
+      lane-row-grows (grown report a) b i (rw (from-length (report .lane) 0 a) h)
+      ∙ ap (λ (r : Row). joined r (laneWaits i b)) (lane-row-grows report a i h)
+      ∙ joined-assoc (rowFor report i) (laneWaits i a) (laneWaits i b)
+
+  pub all-rows-add-up : grown (grown report a) b .all ≡ joined (report .all) (joined (allWaits a) (allWaits b))
+  all-rows-add-up = joined-assoc (report .all) (allWaits a) (allWaits b)
+
+-- two additions to a row change places
+added-in-turn : (r a b : Row) → joined (joined r a) b ≡ joined (joined r b) a
+added-in-turn r a b = joined-assoc r a b ∙ ap (joined r) (joined-comm a b) ∙ sym (joined-assoc r b a)
+
+from-in-turn : (rows : List Row) (first : ℕ) (a b : List Entry) → grownFrom first (grownFrom first rows a) b ≡ grownFrom first (grownFrom first rows b) a
+unfolding grownFrom
+from-in-turn [] first a b = refl
+from-in-turn (r ∷ rows) first a b = λ j. added-in-turn r (laneWaits first a) (laneWaits first b) j ∷ from-in-turn rows (suc first) a b j
+
+pub either-order : (report : Report) (a b : List Entry) → grown (grown report a) b ≡ grown (grown report b) a
+either-order report a b = λ j. record { lane = from-in-turn (report .lane) 0 a b j; all = added-in-turn (report .all) (allWaits a) (allWaits b) j }

@@ -1,0 +1,1 @@
+// The laws of the report of waiting over runs; no functions.
