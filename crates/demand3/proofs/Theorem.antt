@@ -30,7 +30,7 @@ use Rattle.demand3.proofs.Status.{stand-call, statusOf, stands, turn-is
 use Rattle.demand3.proofs.Trace.{entryOn, fair, sent, single, then, then-good}
 
 -- ---- the states along a list
-after-good : (gs : List CallBytes) (x : State) → GoodState x → GoodState (afterAll nextLane x gs)
+pub after-good : (gs : List CallBytes) (x : State) → GoodState x → GoodState (afterAll nextLane x gs)
 unfolding afterBy
 after-good [] x G = G
 after-good (g ∷ gs) x G = after-good gs (then x g) (then-good x g G)
@@ -69,6 +69,15 @@ lanes-are : (gs : List CallBytes) (x : State) → lanesIn (x .line .lanes) (entr
 unfolding entries lanesIn afterBy
 lanes-are [] x = refl
 lanes-are (g ∷ gs) x = ap (λ (n : ℕ). lanesIn n (entries nextLane (then x g) gs)) (lanes-call x g) ∙ lanes-are gs (then x g)
+
+-- ---- the call that tells lane i to wait leaves it waiting
+pub told-waits : (x : State) → GoodState x → (told : CallBytes) (i : ℕ) → tellsToWait i (entryOn x told) ≡ true → phases.isWaiting (phaseAt (then x told .line) i) ≡ true
+told-waits x G told i t =
+    let e = entryOn x told in
+    let w : wantsBy i e ≡ true = and-left (wantsBy i e) _ t in
+    let a : answersWaits e ≡ true = and-right (wantsBy i e) (answersWaits e) t in
+    let s : statusNext i (statusOf (phaseAt (x .line) i)) e ≡ waiting (e .purpose) = rw (w, a) in
+    sym (waits-is (phaseAt (then x told .line) i)) ∙ ap statusWaits (sym (stand-call x G i told) ∙ s)
 
 -- ---- what is claimed after the calls `early`
 module _ (book : List ℕ) (early : List CallBytes) where
@@ -112,15 +121,6 @@ module _ (book : List ℕ) (early : List CallBytes) where
         others-once = λ z j. fair later here i (h .0) j good w (h .1 .has) z .0;
       }
 
-  -- the call that tells lane i to wait leaves it waiting
-  told-waits : (told : CallBytes) (i : ℕ) → tellsToWait i (entryAfter nextLane book early told) ≡ true → phases.isWaiting (phaseAt (then here told .line) i) ≡ true
-  told-waits told i t =
-      let e = entryAfter nextLane book early told in
-      let w : wantsBy i e ≡ true = and-left (wantsBy i e) _ t in
-      let a : answersWaits e ≡ true = and-right (wantsBy i e) (answersWaits e) t in
-      let s : statusNext i (statusOf (phaseAt (here .line) i)) e ≡ waiting (e .purpose) = rw (w, a) in
-      sym (waits-is (phaseAt (then here told .line) i)) ∙ ap statusWaits (sym (stand-call here good i told) ∙ s)
-
 -- ---- the places
 module _ (book : List ℕ) (early later : List CallBytes) (first : CallBytes) where
   abbrev begun : List CallBytes
@@ -144,7 +144,7 @@ told-here book early g t =
 pub demand-three : DemandThree
 demand-three book calls =
     record {
-      waits-end = λ early later rest told i q t. wait-ends book (early ++ told ∷ []) i later (rw (after-one early told (fresh book)) (told-waits book early told i t));
+      waits-end = λ early later rest told i q t. wait-ends book (early ++ told ∷ []) i later (rw (after-one early told (fresh book)) (told-waits (here book early) (good book early) told i t));
       one-turn = λ early rest i q w. turn-here book early i w;
       goes-on = λ early rest h q t. goes-here book early h t;
       in-order = λ early later rest first q r z. placed-here book early later first z;

@@ -32,19 +32,19 @@ entryOn x g = entry g (saidTo nextLane x g)
 pub then-good : (x : State) (g : CallBytes) → GoodState x → GoodState (then x g)
 then-good x g G = keeps G (steps nextLane x (callIn g))
 
-turn-on : (x : State) (G : GoodState x) (i h : ℕ) → isWaiting (phaseAt (x .line) i) ≡ true → hasTurn (phaseAt (x .line) h) ≡ true → (g : CallBytes)
+pub turn-on : (x : State) (G : GoodState x) (i h : ℕ) → isWaiting (phaseAt (x .line) i) ≡ true → hasTurn (phaseAt (x .line) h) ≡ true → (g : CallBytes)
     → Turn x i h (entryOn x g) (stepBy nextLane x (callIn g))
 turn-on x G i h wi th g = by-entry x g (Turn x i h) (λ d n. no-release refl (λ j. refl) refl wi th) (turn x G i h wi th)
 
 rests-on : (x : State) (G : GoodState x) (i : ℕ) → isWaiting (phaseAt (x .line) i) ≡ false → (g : CallBytes) → Rests i (entryOn x g) (stepBy nextLane x (callIn g))
 rests-on x G i wi g = by-entry x g (Rests i) (λ d n. record { unwoken = refl; unwaiting = inr wi }) (rests x G i wi)
 
-distance-some : (n h i : ℕ) → h < n → i ≢ h → 0 < distance n h i
+pub distance-some : (n h i : ℕ) → h < n → i ≢ h → 0 < distance n h i
 distance-some n h i p q =
     elim (decLt i h) [ yes k ↦ rw (distance-round n h i k) (omega arith) | no k ↦ rw (distance-up n h i (omega arith)) (omega arith) ]
 
 -- the lane that waits is not the one with the turn
-waiter-other : (l : Line) (i h : ℕ) → isWaiting (phaseAt l i) ≡ true → hasTurn (phaseAt l h) ≡ true → i ≢ h
+pub waiter-other : (l : Line) (i h : ℕ) → isWaiting (phaseAt l i) ≡ true → hasTurn (phaseAt l h) ≡ true → i ≢ h
 waiter-other l i h wi th z = both th (ap (λ (k : ℕ). hasTurn (phaseAt l k)) (sym z) ∙ waits-no-turn (phaseAt l i) wi)
 
 -- the wake is sent no later than at the release whose number is the distance

@@ -2,3 +2,5 @@
 pub mod Refusal
 pub mod Grown
 pub mod Counting
+pub mod Lanes
+pub mod Bounds
