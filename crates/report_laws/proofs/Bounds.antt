@@ -4,12 +4,12 @@ use mathlib.Core.Path.{_≡_, sym, ap, _∙_}
 use mathlib.Core.Bool.{Bool, true, false, cond}
 use mathlib.Core.List.{List, [], _∷_}
 use native.Mathlib.Omega.{arith}
+use native.Mathlib.Nat.{le-trans, mul-le-mul-left}
 use native.Mathlib.Decide.{decLt}
-use lib.Dec.{eqb}
 use lib.ListN.{length}
-use borrow.Author.Tests.{eqb-true, ne-eqb}
+use borrow.Author.Tests.{ne-eqb}
 use Rattle.lists.specs.Lists.{bit, somePass}
-use Rattle.lists.proofs.Tests.{and-left, and-right, at-test, clash}
+use Rattle.lists.proofs.Tests.{at-test, clash}
 use Rattle.line.specs.Line.{Shaped, hasTurn, isWaiting, phaseAt}
 use Rattle.line.proofs.Facts.{good-of}
 use Rattle.line.proofs.Phases.{waiting-up}
@@ -20,9 +20,10 @@ use Rattle.steps.specs.State.{State}
 use Rattle.steps.specs.Step.{afterBy, stepBy}
 use Rattle.steps.proofs.Keeps.{GoodState}
 use Rattle.printout.specs.Run.{run}
-use Rattle.trace.specs.Trace.{CallBytes, Entry, afterAll, answersWaits, callIn, entries, isAccepted, isRelease, tellsToWait, wakes, wantsBy}
+use Rattle.trace.specs.Trace.{CallBytes, Entry, afterAll, callIn, entries, isRelease, tellsToWait, wakes}
 use Rattle.trace.specs.SheetCalls.{callsIn, sheetEntries}
 use Rattle.report.specs.declared.Report.{Report}
+use Rattle.report.specs.declared.Row.{Row}
 use Rattle.report.specs.Rows.{emptyRow}
 use Rattle.report.specs.Growth.{allWaits, laneWaits, endedRow, releasesToWake, tellsAny, unendedRow, waitRow, waitsTold}
 use Rattle.report.specs.Lent.{gets17, isSound, reportAfter}
@@ -32,6 +33,7 @@ use Rattle.demand3.proofs.Sheets.{sound-run-is-list}
 use Rattle.demand3.proofs.Theorem.{told-waits}
 use Rattle.demand3.proofs.Trace.{distance-some, entryOn, then, then-good, turn-on, waiter-other}
 use Rattle.demand3.proofs.Turn.{Turn, nearer, no-release, turn-up, up-inside, wakes-waiter}
+use Rattle.report_laws.proofs.Counting.{own-lane-told}
 use Rattle.report_laws.proofs.Grown.{lane-row-grows, rowFor, run-grows}
 use Rattle.report_laws.proofs.Lanes.{open-lanes-stay}
 
@@ -84,7 +86,7 @@ wait-within gs x i G wi =
     (λ t. unended-within (x .line .lanes - 1)))
 
 -- those that a test picks, each of them told by its own lane's call
-waits-within : (tells : Entry → Bool) → ((e : Entry) → tells e ≡ true → tellsToWait (e .lane) e ≡ true) → (gs : List CallBytes) (x : State) → GoodState x
+waits-within : (tells : Entry → Bool) → ((e : Entry) → tells e ≡ true → tellsAny e ≡ true) → (gs : List CallBytes) (x : State) → GoodState x
     → WithinReleases (afterAll nextLane x gs .line .lanes - 1) (waitsTold tells (entries nextLane x gs))
 unfolding entries waitsTold afterBy
 waits-within tells own [] x G = no-wait-within (x .line .lanes - 1)
@@ -95,20 +97,17 @@ waits-within tells own (g ∷ gs) x G =
     (λ t. no-wait-within (afterAll nextLane (then x g) gs .line .lanes - 1)))
     (waits-within tells own gs (then x g) (then-good x g G))
 
-own-lane : (i : ℕ) (e : Entry) → tellsToWait i e ≡ true → tellsToWait (e .lane) e ≡ true
-own-lane i e t =
-    let w = and-left (wantsBy i e) (answersWaits e) t in
-    let z : e .lane ≡ i = eqb-true (e .lane) i (and-right (isAccepted 0x02 e) (eqb (e .lane) i) w) in
-    ap (λ (k : ℕ). tellsToWait k e) z ∙ t
-
 -- with N the lanes of the line that the calls leave, each wait that ended took from 1 to N − 1 releases: its largest, and its sum by its times
 pub lane-waits-within : (gs : List CallBytes) (x : State) → GoodState x → (i : ℕ) → WithinReleases (afterAll nextLane x gs .line .lanes - 1) (laneWaits i (entries nextLane x gs))
-lane-waits-within gs x G i = waits-within (tellsToWait i) (own-lane i) gs x G
+lane-waits-within gs x G i = waits-within (tellsToWait i) (own-lane-told i) gs x G
 
 pub all-waits-within : (gs : List CallBytes) (x : State) → GoodState x → WithinReleases (afterAll nextLane x gs .line .lanes - 1) (allWaits (entries nextLane x gs))
 all-waits-within gs x G = waits-within tellsAny (λ e t. t) gs x G
 
 -- ---- the report after the run of a sheet
+weaker : (m k : ℕ) (r : Row) → m ≤ k → WithinReleases m r → WithinReleases k r
+weaker m k r h w = record { largest = omega arith; sum-least = w .sum-least; sum-most = le-trans (w .sum-most) (mul-le-mul-left (r .times) h) }
+
 module _ (x : State) (report : Report) (sheet : List ℕ) (shape : Shaped (x .line)) (s : isSound x ≡ true) (f : gets17 x report sheet ≡ false) where
   good : GoodState x
   good = good-of (x .line) (length (x .book)) shape s
@@ -125,3 +124,16 @@ module _ (x : State) (report : Report) (sheet : List ℕ) (shape : Shaped (x .li
   all-largest-below-lanes =
       let w = all-waits-within (callsIn sheet) x good .largest in
       rw (run-grows x report sheet s f, ← lanes-left) (omega arith)
+
+  -- a report of waits that took from 1 to m releases each stays one by runs of lines of at most m + 1 lanes
+  pub lane-row-stays-within : (m i : ℕ) → i < length (report .lane) → run x sheet .after .line .lanes - 1 ≤ m → WithinReleases m (rowFor report i) → WithinReleases m (rowFor (reportAfter x report sheet) i)
+  lane-row-stays-within m i h n w =
+      let a : afterAll nextLane x (callsIn sheet) .line .lanes - 1 ≤ m = rw lanes-left n in
+      rw (run-grows x report sheet s f, lane-row-grows report (sheetEntries x sheet) i h)
+      (joined-within m (rowFor report i) (laneWaits i (sheetEntries x sheet)) w (weaker _ m (laneWaits i (sheetEntries x sheet)) a (lane-waits-within (callsIn sheet) x good i)))
+
+  pub all-row-stays-within : (m : ℕ) → run x sheet .after .line .lanes - 1 ≤ m → WithinReleases m (report .all) → WithinReleases m (reportAfter x report sheet .all)
+  all-row-stays-within m n w =
+      let a : afterAll nextLane x (callsIn sheet) .line .lanes - 1 ≤ m = rw lanes-left n in
+      rw (run-grows x report sheet s f)
+      (joined-within m (report .all) (allWaits (sheetEntries x sheet)) w (weaker _ m (allWaits (sheetEntries x sheet)) a (all-waits-within (callsIn sheet) x good)))

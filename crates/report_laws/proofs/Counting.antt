@@ -1,14 +1,16 @@
 -- Each answer that tells a lane to wait is counted once, as a wait that ended or as one that did not; a wait that no call of the run tells is left out.
 use Prim.Native.Nat.{ℕ, _+_, _<_}
-use mathlib.Core.Path.{_≡_, refl, _∙_}
+use mathlib.Core.Path.{_≡_, refl, ap, _∙_}
 use mathlib.Core.Bool.{Bool, true, false, cond}
 use mathlib.Core.List.{List, [], _∷_}
 use native.Mathlib.Omega.{arith}
+use lib.Dec.{eqb}
 use lib.ListN.{length}
+use borrow.Author.Tests.{eqb-true}
 use Rattle.lists.specs.Lists.{bit, countPass, somePass}
-use Rattle.lists.proofs.Tests.{by-test, neither-left, neither-right}
+use Rattle.lists.proofs.Tests.{and-left, and-right, by-test, neither-left, neither-right}
 use Rattle.steps.specs.State.{State}
-use Rattle.trace.specs.Trace.{Entry, tellsToWait, wakes}
+use Rattle.trace.specs.Trace.{Entry, answersWaits, isAccepted, tellsToWait, wakes, wantsBy}
 use Rattle.trace.specs.SheetCalls.{sheetEntries}
 use Rattle.report.specs.declared.Report.{Report}
 use Rattle.report.specs.declared.Row.{Row}
@@ -21,6 +23,13 @@ use Rattle.report_laws.proofs.Grown.{lane-row-grows, rowFor, run-grows}
 -- the waits of a row, ended or not
 abbrev pub waitsIn : Row → ℕ
 waitsIn r = r .times + r .unended
+
+-- ---- a call tells the lane that makes it, and no other
+pub told-is-caller : (i : ℕ) (e : Entry) → tellsToWait i e ≡ true → e .lane ≡ i
+told-is-caller i e t = eqb-true (e .lane) i (and-right (isAccepted 0x02 e) (eqb (e .lane) i) (and-left (wantsBy i e) (answersWaits e) t))
+
+pub own-lane-told : (i : ℕ) (e : Entry) → tellsToWait i e ≡ true → tellsAny e ≡ true
+own-lane-told i e t = ap (λ (k : ℕ). tellsToWait k e) (told-is-caller i e t) ∙ t
 
 -- ---- over any list of calls and any test
 one-wait : (i : ℕ) (later : List Entry) → waitsIn (waitRow i later) ≡ 1

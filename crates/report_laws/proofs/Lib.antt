@@ -4,3 +4,6 @@ pub mod Grown
 pub mod Counting
 pub mod Lanes
 pub mod Bounds
+pub mod AllLanes
+pub mod Calls
+pub mod Trials
