@@ -2,8 +2,10 @@
 pub mod Refusal
 pub mod Grown
 pub mod Counting
+pub mod Releases
 pub mod Lanes
 pub mod Bounds
 pub mod AllLanes
+pub mod Unended
 pub mod Calls
 pub mod Trials
