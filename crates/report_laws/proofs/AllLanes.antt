@@ -21,13 +21,13 @@ use Rattle.report.specs.declared.Report.{Report}
 use Rattle.report.specs.declared.Row.{Row}
 use Rattle.report.specs.Rows.{emptyRow, joined}
 use Rattle.report.specs.Growth.{allWaits, grownFrom, laneWaits, tellsAny, waitRow, waitsTold}
-use Rattle.report.specs.Lent.{gets17, isSound, reportAfter}
+use Rattle.report.specs.Lent.{reportAfter}
 use Rattle.report.proofs.Rows.{empty-joined, joined-assoc, joined-swap, row-eq}
 use Rattle.demand3.proofs.Theorem.{told-waits}
 use Rattle.demand3.proofs.Trace.{entryOn, then, then-good}
 use Rattle.demand3.proofs.Turn.{up-inside}
 use Rattle.report_laws.proofs.Counting.{own-lane-told, told-is-caller}
-use Rattle.report_laws.proofs.Grown.{run-grows}
+use Rattle.report_laws.proofs.Grown.{by-report}
 
 -- rows joined to one, and the waits of `n` lanes from a first one on
 unfoldable pub joinedRows : List Row → Row
@@ -89,11 +89,11 @@ told-inside x G g t =
     let F = then-good x g G .facts in
     omega (arith, up-inside (then x g .line) F i (waiting-up (phaseAt (then x g .line) i) (told-waits x G g i t)), F .base .lanes-fit)
 
-pub all-waits-are-the-lanes : (gs : List CallBytes) (x : State) → GoodState x → allWaits (entries nextLane x gs) ≡ lanesWaits 0 mostLanes (entries nextLane x gs)
+pub all-waits-are-lanes-joined : (gs : List CallBytes) (x : State) → GoodState x → allWaits (entries nextLane x gs) ≡ lanesWaits 0 mostLanes (entries nextLane x gs)
 unfolding entries waitsTold
-all-waits-are-the-lanes [] x G = sym (no-lanes-wait 0 mostLanes)
-all-waits-are-the-lanes (g ∷ gs) x G =
-    ap (joined (cond (tellsAny (entryOn x g)) (waitRow (entryOn x g .lane) (entries nextLane (then x g) gs)) emptyRow)) (all-waits-are-the-lanes gs (then x g) (then-good x g G))
+all-waits-are-lanes-joined [] x G = sym (no-lanes-wait 0 mostLanes)
+all-waits-are-lanes-joined (g ∷ gs) x G =
+    ap (joined (cond (tellsAny (entryOn x g)) (waitRow (entryOn x g .lane) (entries nextLane (then x g) gs)) emptyRow)) (all-waits-are-lanes-joined gs (then x g) (then-good x g G))
     ∙ sym (call-adds (entryOn x g) (entries nextLane (then x g) gs) mostLanes (told-inside x G g))
 
 -- ---- of the report: where its row for all lanes is its rows joined, it is so after a run
@@ -104,8 +104,9 @@ rows-grow (r ∷ rows) first es =
     rw (rows-grow rows (suc first) es)
     (row-eq (omega arith) (omega arith) (omega arith) (omega arith))
 
-pub all-row-stays-the-lanes : (x : State) (report : Report) (sheet : List ℕ) → Shaped (x .line) → length (report .lane) ≡ mostLanes → isSound x ≡ true → gets17 x report sheet ≡ false
-    → report .all ≡ joinedRows (report .lane) → reportAfter x report sheet .all ≡ joinedRows (reportAfter x report sheet .lane)
-all-row-stays-the-lanes x report sheet shape n s f e =
-    let w = all-waits-are-the-lanes (callsIn sheet) x (good-of (x .line) (length (x .book)) shape s) in
-    rw (run-grows x report sheet s f, rows-grow (report .lane) 0 (sheetEntries x sheet), n) (λ j. joined (e j) (w j))
+pub all-row-stays-lanes-joined : (x : State) (report : Report) (sheet : List ℕ) → Shaped (x .line) → length (report .lane) ≡ mostLanes → report .all ≡ joinedRows (report .lane)
+    → reportAfter x report sheet .all ≡ joinedRows (reportAfter x report sheet .lane)
+all-row-stays-lanes-joined x report sheet shape n e =
+    by-report x report sheet (λ (r : Report). r .all ≡ joinedRows (r .lane)) e
+    (λ s. let w = all-waits-are-lanes-joined (callsIn sheet) x (good-of (x .line) (length (x .book)) shape s) in
+    rw (rows-grow (report .lane) 0 (sheetEntries x sheet), n) (λ j. joined (e j) (w j)))

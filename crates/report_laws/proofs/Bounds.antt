@@ -1,13 +1,14 @@
 -- How long a wait is: from 1 release to the distance of demand 3, which is below the number of lanes; so every row that a run adds, and the largest of the report.
-use Prim.Native.Nat.{ℕ, _+_, _-_, _≤_, _<_, max}
+use Prim.Native.Nat.{ℕ, zero, suc, _+_, _-_, _≤_, _<_, max}
 use mathlib.Core.Path.{_≡_, sym, ap, _∙_}
 use mathlib.Core.Bool.{Bool, true, false, cond}
 use mathlib.Core.List.{List, [], _∷_}
 use native.Mathlib.Omega.{arith}
 use native.Mathlib.Nat.{le-trans, mul-le-mul-left}
 use native.Mathlib.Decide.{decLt}
-use lib.ListN.{length}
+use lib.ListN.{getD, length, replicate}
 use borrow.Author.Tests.{ne-eqb}
+use Rattle.limits.specs.Limits.{mostLanes}
 use Rattle.lists.specs.Lists.{bit, somePass}
 use Rattle.lists.proofs.Tests.{at-test, clash}
 use Rattle.line.specs.Line.{Shaped, hasTurn, isWaiting, phaseAt}
@@ -24,17 +25,17 @@ use Rattle.trace.specs.Trace.{CallBytes, Entry, afterAll, callIn, entries, isRe
 use Rattle.trace.specs.SheetCalls.{callsIn, sheetEntries}
 use Rattle.report.specs.declared.Report.{Report}
 use Rattle.report.specs.declared.Row.{Row}
-use Rattle.report.specs.Rows.{emptyRow}
-use Rattle.report.specs.Growth.{allWaits, laneWaits, endedRow, releasesToWake, tellsAny, unendedRow, waitRow, waitsTold}
-use Rattle.report.specs.Lent.{gets17, isSound, reportAfter}
+use Rattle.report.specs.Rows.{emptyReport, emptyRow}
+use Rattle.report.specs.Growth.{allWaits, endedRow, grownFrom, laneWaits, releasesToWake, tellsAny, unendedRow, waitRow, waitsTold}
+use Rattle.report.specs.Lent.{isSound, reportAfter}
 use Rattle.report.proofs.Means.{WithinReleases, ended-within, joined-within, no-wait-within, unended-within}
 use Rattle.demand3.proofs.Goes.{only-turn}
 use Rattle.demand3.proofs.Sheets.{sound-run-is-list}
-use Rattle.demand3.proofs.Theorem.{told-waits}
+use Rattle.demand3.proofs.Theorem.{after-good, told-waits}
 use Rattle.demand3.proofs.Trace.{distance-some, entryOn, then, then-good, turn-on, waiter-other}
 use Rattle.demand3.proofs.Turn.{Turn, nearer, no-release, turn-up, up-inside, wakes-waiter}
 use Rattle.report_laws.proofs.Counting.{own-lane-told}
-use Rattle.report_laws.proofs.Grown.{lane-row-grows, rowFor, run-grows}
+use Rattle.report_laws.proofs.Grown.{by-report, lane-row-grows, rowFor}
 use Rattle.report_laws.proofs.Lanes.{open-lanes-stay}
 
 -- ---- one wait
@@ -105,35 +106,66 @@ pub all-waits-within : (gs : List CallBytes) (x : State) → GoodState x → Wit
 all-waits-within gs x G = waits-within tellsAny (λ e t. t) gs x G
 
 -- ---- the report after the run of a sheet
-weaker : (m k : ℕ) (r : Row) → m ≤ k → WithinReleases m r → WithinReleases k r
-weaker m k r h w = record { largest = omega arith; sum-least = w .sum-least; sum-most = le-trans (w .sum-most) (mul-le-mul-left (r .times) h) }
-
-module _ (x : State) (report : Report) (sheet : List ℕ) (shape : Shaped (x .line)) (s : isSound x ≡ true) (f : gets17 x report sheet ≡ false) where
+module _ (x : State) (sheet : List ℕ) (shape : Shaped (x .line)) (s : isSound x ≡ true) where
   good : GoodState x
   good = good-of (x .line) (length (x .book)) shape s
 
   lanes-left : afterAll nextLane x (callsIn sheet) .line .lanes ≡ run x sheet .after .line .lanes
   lanes-left = ap (λ (y : State). y .line .lanes) (sym (sound-run-is-list x sheet shape s .after))
 
+  lanes-few : run x sheet .after .line .lanes ≤ mostLanes
+  lanes-few = rw (← lanes-left) (after-good (callsIn sheet) x good .facts .base .lanes-fit)
+
+  sheet-lane-within : (i : ℕ) → WithinReleases (run x sheet .after .line .lanes - 1) (laneWaits i (sheetEntries x sheet))
+  sheet-lane-within i = rw (← lanes-left) (lane-waits-within (callsIn sheet) x good i)
+
+  sheet-all-within : WithinReleases (run x sheet .after .line .lanes - 1) (allWaits (sheetEntries x sheet))
+  sheet-all-within = rw (← lanes-left) (all-waits-within (callsIn sheet) x good)
+
+-- the largest grows to at most N − 1, from a smaller one
+module _ (x : State) (report : Report) (sheet : List ℕ) (shape : Shaped (x .line)) where
   pub lane-largest-below-lanes : (i : ℕ) → i < length (report .lane) → rowFor (reportAfter x report sheet) i .largest ≤ max (rowFor report i .largest) (run x sheet .after .line .lanes - 1)
   lane-largest-below-lanes i h =
-      let w = lane-waits-within (callsIn sheet) x good i .largest in
-      rw (run-grows x report sheet s f, lane-row-grows report (sheetEntries x sheet) i h, ← lanes-left) (omega arith)
+      by-report x report sheet (λ (r : Report). rowFor r i .largest ≤ max (rowFor report i .largest) (run x sheet .after .line .lanes - 1)) (omega arith)
+      (λ s. let w = sheet-lane-within x sheet shape s i .largest in rw (lane-row-grows report (sheetEntries x sheet) i h) (omega arith))
 
   pub all-largest-below-lanes : reportAfter x report sheet .all .largest ≤ max (report .all .largest) (run x sheet .after .line .lanes - 1)
   all-largest-below-lanes =
-      let w = all-waits-within (callsIn sheet) x good .largest in
-      rw (run-grows x report sheet s f, ← lanes-left) (omega arith)
+      by-report x report sheet (λ (r : Report). r .all .largest ≤ max (report .all .largest) (run x sheet .after .line .lanes - 1)) (omega arith)
+      (λ s. let w = sheet-all-within x sheet shape s .largest in omega arith)
 
-  -- a report of waits that took from 1 to m releases each stays one by runs of lines of at most m + 1 lanes
-  pub lane-row-stays-within : (m i : ℕ) → i < length (report .lane) → run x sheet .after .line .lanes - 1 ≤ m → WithinReleases m (rowFor report i) → WithinReleases m (rowFor (reportAfter x report sheet) i)
-  lane-row-stays-within m i h n w =
-      let a : afterAll nextLane x (callsIn sheet) .line .lanes - 1 ≤ m = rw lanes-left n in
-      rw (run-grows x report sheet s f, lane-row-grows report (sheetEntries x sheet) i h)
-      (joined-within m (rowFor report i) (laneWaits i (sheetEntries x sheet)) w (weaker _ m (laneWaits i (sheetEntries x sheet)) a (lane-waits-within (callsIn sheet) x good i)))
+-- ---- over any number of sheets: all ended waits of a report took from 1 to m releases each
+pub record ReportWithin (m : ℕ) (report : Report) : Type 0 where
+  pub lanes : (i : ℕ) → WithinReleases m (rowFor report i)
+  pub all : WithinReleases m (report .all)
 
-  pub all-row-stays-within : (m : ℕ) → run x sheet .after .line .lanes - 1 ≤ m → WithinReleases m (report .all) → WithinReleases m (reportAfter x report sheet .all)
-  all-row-stays-within m n w =
-      let a : afterAll nextLane x (callsIn sheet) .line .lanes - 1 ≤ m = rw lanes-left n in
-      rw (run-grows x report sheet s f)
-      (joined-within m (report .all) (allWaits (sheetEntries x sheet)) w (weaker _ m (allWaits (sheetEntries x sheet)) a (all-waits-within (callsIn sheet) x good)))
+empty-rows-within : (m n i : ℕ) → WithinReleases m (getD (replicate n emptyRow) i emptyRow)
+empty-rows-within m zero i = no-wait-within m
+empty-rows-within m (suc n) zero = no-wait-within m
+empty-rows-within m (suc n) (suc i) = empty-rows-within m n i
+
+pub empty-report-within : (m : ℕ) → ReportWithin m emptyReport
+empty-report-within m = record { lanes = empty-rows-within m mostLanes; all = no-wait-within m }
+
+weaker : (m k : ℕ) (r : Row) → m ≤ k → WithinReleases m r → WithinReleases k r
+weaker m k r h w = record { largest = omega arith; sum-least = w .sum-least; sum-most = le-trans (w .sum-most) (mul-le-mul-left (r .times) h) }
+
+rows-within : (m : ℕ) (es : List Entry) → ((i : ℕ) → WithinReleases m (laneWaits i es)) → (rows : List Row) (first : ℕ) → ((i : ℕ) → WithinReleases m (getD rows i emptyRow))
+    → (i : ℕ) → WithinReleases m (getD (grownFrom first rows es) i emptyRow)
+unfolding grownFrom
+rows-within m es w [] first r i = no-wait-within m
+rows-within m es w (row ∷ rows) first r zero = joined-within m row (laneWaits first es) (r 0) (w first)
+rows-within m es w (row ∷ rows) first r (suc i) = rows-within m es w rows (suc first) (λ k. r (suc k)) i
+
+module _ (x : State) (report : Report) (sheet : List ℕ) (shape : Shaped (x .line)) where
+  -- runs of sound lines with at most m + 1 lanes keep it, and so do those that get 1 or 17
+  pub report-stays-within : (m : ℕ) → (isSound x ≡ true → run x sheet .after .line .lanes - 1 ≤ m) → ReportWithin m report → ReportWithin m (reportAfter x report sheet)
+  report-stays-within m few W =
+      by-report x report sheet (ReportWithin m) W
+      (λ s. record {
+        lanes = rows-within m (sheetEntries x sheet) (λ i. weaker _ m (laneWaits i (sheetEntries x sheet)) (few s) (sheet-lane-within x sheet shape s i)) (report .lane) 0 (W .lanes);
+        all = joined-within m (report .all) (allWaits (sheetEntries x sheet)) (W .all) (weaker _ m (allWaits (sheetEntries x sheet)) (few s) (sheet-all-within x sheet shape s));
+      })
+
+  pub report-within-most-lanes : ReportWithin (mostLanes - 1) report → ReportWithin (mostLanes - 1) (reportAfter x report sheet)
+  report-within-most-lanes W = report-stays-within (mostLanes - 1) (λ s. omega (arith, lanes-few x sheet shape s)) W

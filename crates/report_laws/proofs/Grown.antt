@@ -1,11 +1,12 @@
 -- The rows of a report after a run: each is the row lent with the run's waits of that lane, or of all; two runs over one report add up, in either order.
 use Prim.Native.Nat.{ℕ, zero, suc, _+_, _<_}
 use mathlib.Core.Path.{_≡_, refl, sym, ap, _∙_}
-use mathlib.Core.Bool.{true, false}
+use mathlib.Core.Bool.{true, false, cond}
 use mathlib.Core.List.{List, [], _∷_}
 use native.Mathlib.Omega.{arith}
 use native.Mathlib.Nat.{zero-add}
 use lib.ListN.{getD, length}
+use Rattle.lists.proofs.Tests.{at-test}
 use Rattle.steps.specs.State.{State}
 use Rattle.trace.specs.Trace.{Entry}
 use Rattle.trace.specs.SheetCalls.{sheetEntries}
@@ -37,6 +38,14 @@ lane-row-grows report es i h = rw (zero-add i) at (grown-from (report .lane) 0 i
 -- ---- after a run that gets neither 1 nor 17
 pub run-grows : (x : State) (report : Report) (sheet : List ℕ) → isSound x ≡ true → gets17 x report sheet ≡ false → reportAfter x report sheet ≡ grown report (sheetEntries x sheet)
 run-grows x report sheet s f = let c : cannotCount report sheet ≡ false = rw s at f in rw (s, c)
+
+-- after any run, 1 and 17 included: what is so of the report lent and of the grown one
+pub by-report : (x : State) (report : Report) (sheet : List ℕ) (P : Report → Type 0) → P report → (isSound x ≡ true → P (grown report (sheetEntries x sheet))) → P (reportAfter x report sheet)
+by-report x report sheet P lent more =
+    let after = grown report (sheetEntries x sheet) in
+    at-test P (isSound x) (cond (cannotCount report sheet) report after) report
+    (λ s. at-test P (cannotCount report sheet) report after (λ c. lent) (λ c. more s))
+    (λ u. lent)
 
 -- ---- two runs
 module _ (report : Report) (a b : List Entry) where
