@@ -6,11 +6,13 @@ use mathlib.Core.List.{List}
 use lib.Dec.{ltb}
 use lib.ListN.{length}
 use Rattle.steps.specs.State.{State}
-use Rattle.run.specs.Runs.{leftByRun, printedBy, textFits, textIn}
+use Rattle.run.specs.Runs.{leftByRun, printedBy, reportBy, textFits, textIn}
+use Rattle.report.specs.declared.Report.{Report}
 use Rattle.event.specs.ReadWrite.{readAt}
 use Rattle.event.specs.declared.Reading.{Reading}
 use Rattle.answer_text.specs.declared.Printed.{Printed}
 use Rattle.run_text.specs.RunText.{mostText}
+use Rattle.embed.specs.declared.Linked.{Linked}
 
 -- the greatest number of 64 bits, which is no length
 abbrev pub noLength : ℕ
@@ -25,6 +27,18 @@ pub record LinkedRun (x : State) (sheet text : List ℕ) (r : ℕ) (book-left te
   pub answer : r ≡ lengthPrinted (printedBy x sheet text)
   pub book-after : book-left ≡ leftByRun x sheet text .book
   pub text-after : text-left ≡ textIn x sheet text
+  pub fits : textFits (printedBy x sheet text) (length text) ≡ true
+
+-- a length and a report, as one
+abbrev pub linkedOf : ℕ → Report → Linked
+linkedOf length report = record { length = length; report = report }
+
+-- the same run with a report: and the report that it leaves
+pub record LinkedMeets (x : State) (report : Report) (sheet text : List ℕ) (r : Linked) (book-left text-left : List ℕ) : Type 0 where
+  pub answer : r .length ≡ lengthPrinted (printedBy x sheet text)
+  pub book-after : book-left ≡ leftByRun x sheet text .book
+  pub text-after : text-left ≡ textIn x sheet text
+  pub report-after : r .report ≡ reportBy x report sheet text
   pub fits : textFits (printedBy x sheet text) (length text) ≡ true
 
 abbrev pub textBound : ℕ → ℕ

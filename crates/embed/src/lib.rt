@@ -1,6 +1,7 @@
 // The functions that C and Rust programs link, on numbers and byte slices: a slice is a pointer and a length.
 ghost use mathlib.Core.Path.{_≡_};
-ghost use Rattle.embed.specs.Embedded.{LinkedRun, eventLength, eventRefusal, textBound};
+ghost use Rattle.embed.specs.Embedded.{LinkedMeets, LinkedRun, eventLength, eventRefusal, lengthPrinted, linkedOf, textBound};
+ghost use Rattle.report.specs.Rows.{meanOf, remainderOf};
 ghost use Rattle.steps.specs.State.{fresh};
 ghost use Rattle.version.specs.Version.{versionNumber};
 use answer_text::MOST_LINE;
@@ -8,8 +9,26 @@ use answer_text::Printed;
 use event::Cursor;
 use event::Reading;
 use line::Line;
+use report::Report;
 use run::run;
+use run::run_reported;
 use run_text::MOST_LAST;
+
+// What a run over a report handed by value answers: the length of its text as `gudlemi_run` answers it, and the report as the run leaves it.
+pub struct Linked {
+    pub length: usize,
+    pub report: Report,
+}
+
+// The length of a run's text, or the greatest number where there is none.
+fn length_of(printed: Printed) -> usize
+    ensures { λ r. ⌜ r ≡ lengthPrinted printed ⌝ }
+{
+    match printed {
+        Printed::Length(length) => length,
+        Printed::TooShort => 18446744073709551615,
+    }
+}
 
 // Runs a whole sheet from an unopened line over a lent book; the printed lines stand at the start of `text`. The answer is their length,
 // or the greatest number where `text` may be too short, with nothing altered.
@@ -20,10 +39,53 @@ pub extern "C" fn gudlemi_run(sheet: &[u8], book: &mut [u8], text: &mut [u8]) ->
     let line = Line::unopened();
     let ran = run(line, book, sheet, text);
     let printed = ran.printed;
-    match printed {
-        Printed::Length(length) => length,
-        Printed::TooShort => 18446744073709551615,
+    length_of(printed)
+}
+
+// Runs a whole sheet as `gudlemi_run` does, with a report, by value.
+pub fn run_linked(sheet: &[u8], book: &mut [u8], text: &mut [u8], report: Report) -> Linked
+    ensures { λ r. ⌜ LinkedMeets (fresh (now (book .entry))) report (now (sheet .entry)) (now (text .entry)) r (now (book .exit)) (now (text .exit)) ⌝ }
+{
+    let line = Line::unopened();
+    let ran = run_reported(line, book, sheet, text, report);
+    let left = ran.report;
+    let printed = ran.printed;
+    let length = length_of(printed);
+    Linked {
+        length,
+        report: left,
     }
+}
+
+// Runs a whole sheet as `gudlemi_run` does, over a lent report, which grows in place.
+#[no_mangle]
+pub extern "C" fn gudlemi_run_reported(
+    sheet: &[u8],
+    book: &mut [u8],
+    text: &mut [u8],
+    report: &mut Report,
+) -> usize
+    ensures { λ r. ⌜ LinkedMeets (fresh (now (book .entry))) (now (report .entry)) (now (sheet .entry)) (now (text .entry)) (linkedOf r (now (report .exit))) (now (book .exit)) (now (text .exit)) ⌝ }
+{
+    let ran = run_linked(sheet, book, text, *report);
+    *report = ran.report;
+    ran.length
+}
+
+// The whole part of the mean of a report's row, by its times and its sum; 0 where there is no time.
+#[no_mangle]
+pub extern "C" fn gudlemi_mean(times: u64, sum: u64) -> u64
+    ensures { λ r. ⌜ r ≡ meanOf times sum ⌝ }
+{
+    report::mean(times, sum)
+}
+
+// What remains of the sum; 0 where there is no time.
+#[no_mangle]
+pub extern "C" fn gudlemi_remainder(times: u64, sum: u64) -> u64
+    ensures { λ r. ⌜ r ≡ remainderOf times sum ⌝ }
+{
+    report::remainder(times, sum)
 }
 
 // A length of `text` that is enough for any sheet of this length, or the greatest number where there is none.

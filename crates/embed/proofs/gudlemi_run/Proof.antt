@@ -1,5 +1,5 @@
 -- `gudlemi_run` meets its contract: it is the run from an unopened line.
-use mathlib.Core.Path.{sym, ap, _∙_}
+use mathlib.Core.Path.{ap, _∙_}
 use Rattle.embed.specs.Embedded.{lengthPrinted}
 use Rattle.linebook_text.proofs.Fresh.{from-unopened}
 use borrow.Author.Needs.{needs}
@@ -8,18 +8,10 @@ use Rattle.embed.proofs.gudlemi_run.Tie as tie
 
 returns : tie.Need-returns
 returns c =
-    let told = c .before in
-    let r = told .before .before .before .before .before .before in
+    let r = c .before .before .before .before .before in
     let u = r .before .before .before in
     let m = from-unopened _ _ _ _ _ _ _ (u .unopened .ensures) (r .run .ensures) in
-    record { answer = ap lengthPrinted (sym (told .printed .given .1) ∙ m .answer); book-after = m .book; text-after = m .text; fits = rw (m .answer) at (m .fits) }
-
-returns-2 : tie.Need-returns-2
-returns-2 c =
-    let r = c .before .before .before .before .before .before in
-    let u = r .before .before .before in
-    let m = from-unopened _ _ _ _ _ _ _ (u .unopened .ensures) (r .run .ensures) in
-    record { answer = ap lengthPrinted (sym (c .enum-told .given .1) ∙ m .answer); book-after = m .book; text-after = m .text; fits = rw (m .answer) at (m .fits) }
+    record { answer = c .length-of .ensures ∙ ap lengthPrinted (m .answer); book-after = m .book; text-after = m .text; fits = rw (m .answer) at (m .fits) }
 
 pub gudlemi-run-spec : {M : Type 1} → statement M
 gudlemi-run-spec =
@@ -27,11 +19,7 @@ gudlemi-run-spec =
     (tie.spec
     (λ c κs. search needs)
     (λ c κs. search needs)
+    (λ c κs. search needs)
     (λ c. search needs)
     (λ c. search needs)
-    (λ c. search needs)
-    (λ c. search needs)
-    returns
-    (λ c. search needs)
-    (λ c. search needs)
-    returns-2)
+    returns)

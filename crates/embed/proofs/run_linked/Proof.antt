@@ -1,0 +1,37 @@
+-- `run_linked` meets its contract: it is the run with a report from an unopened line.
+use Prim.Native.Nat.{ℕ}
+use mathlib.Core.List.{List}
+use mathlib.Core.Path.{_≡_, ap, subst, _∙_}
+use Rattle.line.specs.declared.Line.{Line}
+use Rattle.line.specs.Line.{unopened}
+use Rattle.report.specs.declared.Report.{Report}
+use Rattle.steps.specs.Meets.{stateOf}
+use Rattle.steps.specs.State.{fresh}
+use Rattle.run.specs.Runs.{ReportedMeets}
+use Rattle.run.specs.declared.Reported.{Reported}
+use Rattle.embed.specs.Embedded.{lengthPrinted}
+use borrow.Author.Needs.{needs}
+use Rattle.embed.proofs.run_linked.Statement.{statement}
+use Rattle.embed.proofs.run_linked.Tie as tie
+
+from-unopened : (l : Line) (book : List ℕ) (report : Report) (sheet text : List ℕ) (o : Reported) (book′ text′ : List ℕ) → l ≡ unopened → ReportedMeets (stateOf l book) report sheet text o book′ text′ → ReportedMeets (fresh book) report sheet text o book′ text′
+from-unopened l book report sheet text o book′ text′ e m = subst (λ (k : Line). ReportedMeets (stateOf k book) report sheet text o book′ text′) e m
+
+returns : tie.Need-returns
+returns c =
+    let r = c .before .before .before .before .before .before in
+    let u = r .before .before .before in
+    let m = from-unopened _ _ _ _ _ _ _ _ (u .unopened .ensures) (r .run-reported .ensures) in
+    let n = m .run in
+    record { answer = c .length-of .ensures ∙ ap lengthPrinted (n .answer); book-after = n .book; text-after = n .text; report-after = m .report-left; fits = rw (n .answer) at (n .fits) }
+
+pub run-linked-spec : {M : Type 1} → statement M
+run-linked-spec =
+    tie.close
+    (tie.spec
+    (λ c κs. search needs)
+    (λ c κs. search needs)
+    (λ c κs. search needs)
+    (λ c. search needs)
+    (λ c. search needs)
+    returns)
