@@ -3,20 +3,7 @@ ghost use Prim.Native.Nat.{_+_, _-_, _≤_, _<_};
 ghost use mathlib.Core.Path.{_≡_};
 ghost use lib.ListN.{length, replicate};
 ghost use Rattle.number_text.specs.Stored.{Stored};
-use word_text::BLANK;
-
-// Blanks from an index to another; the index after them.
-fn put_blanks(out: &mut [u8], from: usize, to: usize) -> usize
-    requires { ⌜ (from ≤ to) × (to ≤ length (now out)) ⌝ }
-    ensures { λ r. ⌜ Stored (replicate (to - from) 32) (now (out .entry)) from (now (out .exit)) r ⌝ }
-{
-    let mut i = from;
-    while i < to {
-        out[i] = BLANK;
-        i += 1;
-    }
-    i
-}
+use column_text::put_blanks;
 
 // Where a column ends: at its width, or where its text ends if that is further, and two blanks later.
 fn column_end(start: usize, last: usize, width: usize) -> usize

@@ -5,8 +5,8 @@ use native.Mathlib.Omega.{arith}
 use lib.ListN.{length, length-replicate, length-set, replicate}
 use lib.Seq.{sets}
 use borrow.Author.Needs.{needs}
-use Rattle.trace_text.proofs.columns.put_blanks.Statement.{statement}
-use Rattle.trace_text.proofs.columns.put_blanks.Tie as tie
+use Rattle.column_text.proofs.put_blanks.Statement.{statement}
+use Rattle.column_text.proofs.put_blanks.Tie as tie
 
 abbrev Inv-loop : tie.InvT-loop
 Inv-loop out₀ from to i₀ out i =

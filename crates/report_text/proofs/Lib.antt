@@ -1,0 +1,4 @@
+-- The laws of the table.
+pub mod Cells
+pub mod Lanes
+pub mod Tables

@@ -1,0 +1,3 @@
+-- The table of the report of waiting.
+pub mod Table
+pub mod Printing
