@@ -6,10 +6,9 @@ ghost use Rattle.limits.specs.Limits.{mostSheet};
 ghost use Rattle.run_text.specs.RunText.{mostText};
 use answer_text::MOST_LINE;
 use answer_text::Printed;
-use event::Cursor;
-use event::Reading;
 use limits::MOST_SHEET;
 use linebook_text::print_sheet;
+use notation_mistake::is_notation;
 use run_text::MOST_LAST;
 use standard_io::Input;
 use standard_io::is_word;
@@ -55,34 +54,6 @@ fn print_in(sheet: &[u8], text: &mut [u8])
 fn print_run(sheet: &[u8]) {
     let mut text = [0; MOST_TEXT];
     print_in(sheet, &mut text);
-}
-
-// Whether what comes after the last event is the sheet's end.
-fn is_end(reading: Reading) -> bool {
-    if let Reading::Refused(_) = reading {
-        return false;
-    }
-    true
-}
-
-// Whether a sheet's bytes are events to its end.
-fn is_whole(sheet: &[u8]) -> bool {
-    let mut at: usize = 0;
-    loop {
-        let reading = decode::read_event(sheet, Cursor { at });
-        let Reading::Event { next, .. } = reading else {
-            return is_end(reading);
-        };
-        at = next.at;
-    }
-}
-
-// Whether a sheet is notation by mistake: it looks so, and no events are read from it to its end. A sheet that starts with the kind 09 or 0A may look so, too.
-fn is_notation(sheet: &[u8]) -> bool {
-    if notation::looks_like_notation(sheet) {
-        return !is_whole(sheet);
-    }
-    false
 }
 
 // Says that a sheet is notation by mistake.

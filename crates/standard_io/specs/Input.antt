@@ -1,4 +1,4 @@
--- Where what was read from standard input lies.
+-- Where what was read from a file lies.
 use Prim.Native.Nat.{ℕ}
 use mathlib.Core.Bool.{Bool, true}
 use lib.Dec.{leb}

@@ -1,4 +1,4 @@
-// Standard input and output of a program: input read to its end, text written whole, and a failure told apart from an end.
+// Input and output of a program: a file read to its end, text written whole, and a failure told apart from an end.
 // A call that a signal interrupted, or that found the file not ready, is made again.
 ghost use mathlib.Core.Bool.{true};
 ghost use mathlib.Core.Path.{_≡_};
@@ -65,14 +65,14 @@ pub fn has_stack(name: &[u8], needed: u64) -> bool {
     false
 }
 
-// Reads standard input to its end, or as much of it as the buffer holds.
-pub fn read_input(space: &mut [u8]) -> Input
+// Reads an open file to its end, or as much of it as the buffer holds.
+pub fn read_file(file: i32, space: &mut [u8]) -> Input
     ensures { λ r. ⌜ within r (length (now (space .exit))) ≡ true ⌝ }
 {
     let mut done: usize = 0;
     let mut tries = MOST_TRIES;
     while done < space.len() {
-        let got = libc::read(libc::STDIN_FILENO, &mut space[done..]);
+        let got = libc::read(file, &mut space[done..]);
         if got < 0 {
             if tries == 0 {
                 return Input::Failed;
@@ -90,6 +90,13 @@ pub fn read_input(space: &mut [u8]) -> Input
         done += more;
     }
     Input::Length(done)
+}
+
+// Reads standard input to its end, or as much of it as the buffer holds.
+pub fn read_input(space: &mut [u8]) -> Input
+    ensures { λ r. ⌜ within r (length (now (space .exit))) ≡ true ⌝ }
+{
+    read_file(libc::STDIN_FILENO, space)
 }
 
 // Writes a whole text; false where a write failed, and errno says why. Some of the text may have been written then.

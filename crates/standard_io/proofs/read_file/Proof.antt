@@ -1,4 +1,4 @@
--- `read_input` stays within its buffer and ends: each turn reads a byte at least, or uses up a try. The measure is what is left of the buffer, and of the tries.
+-- `read_file` stays within its buffer and ends: each turn reads a byte at least, or uses up a try. The measure is what is left of the buffer, and of the tries.
 use Prim.Native.Nat.{_+_, _-_, _≤_}
 use mathlib.Core.Path.{_≡_}
 use lib.ListN.{length}
@@ -7,14 +7,14 @@ use borrow.Author.Needs.{needs, sfits-of}
 use borrow.Rule.Slice.PartMut.{putMid, same-len-mid}
 use borrow.Author.Tests.{le-leb}
 use Rattle.standard_io.proofs.Counted.{onward}
-use Rattle.standard_io.proofs.read_input.Statement.{statement}
-use Rattle.standard_io.proofs.read_input.Tie as tie
+use Rattle.standard_io.proofs.read_file.Statement.{statement}
+use Rattle.standard_io.proofs.read_file.Tie as tie
 
 abbrev Inv-loop : tie.InvT-loop
-Inv-loop space₀ done₀ tries₀ space done tries = (done ≤ length space) × (length space ≡ length space₀)
+Inv-loop file space₀ done₀ tries₀ space done tries = (done ≤ length space) × (length space ≡ length space₀)
 
 abbrev μ-loop : tie.MeasureT-loop
-μ-loop space₀ done₀ tries₀ space done tries = (length space - done) + tries
+μ-loop file space₀ done₀ tries₀ space done tries = (length space - done) + tries
 
 -- after a read the buffer is as long as it was, and what was read, as `count` has it, lies within it
 same : (e : tie.After-read Inv-loop μ-loop) →
@@ -48,8 +48,8 @@ loop-again-2 c =
 returns-4 : tie.Need-returns-4 Inv-loop μ-loop
 returns-4 c = le-leb _ _ (c .before .loop .inv .0)
 
-pub read-input-spec : {M : Type 1} → statement M
-read-input-spec =
+pub read-file-spec : {M : Type 1} → statement M
+read-file-spec =
     tie.close
     (tie.spec
     Inv-loop

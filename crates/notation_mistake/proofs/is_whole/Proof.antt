@@ -5,8 +5,8 @@ use native.Mathlib.Omega.{arith}
 use lib.ListN.{length}
 use borrow.Author.Needs.{needs}
 use Rattle.event.proofs.Lengths.{reads}
-use Rattle.linebook.proofs.is_whole.Statement.{statement}
-use Rattle.linebook.proofs.is_whole.Tie as tie
+use Rattle.notation_mistake.proofs.is_whole.Statement.{statement}
+use Rattle.notation_mistake.proofs.is_whole.Tie as tie
 
 abbrev Inv-loop : tie.InvT-loop
 Inv-loop sheet at₀ at = at ≤ length sheet
