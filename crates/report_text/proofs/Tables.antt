@@ -15,12 +15,12 @@ use Rattle.number_text.proofs.Decimal.{few-digits}
 use Rattle.report.specs.Rows.{emptyReport, emptyRow, meanOf, remainderOf, row}
 use Rattle.report.specs.declared.Report.{Report}
 use Rattle.report.specs.declared.Row.{Row}
-use Rattle.report_text.specs.Table.{cell, hasWait, header, laneLines, rowLine, table}
+use Rattle.report_text.specs.Table.{cell, hasWait, header, waitLines, rowLine, table}
 use Rattle.report_text.proofs.Cells.{cell-length}
 
 -- ---- a lane without any wait has no line
-pub no-wait-no-line : (i : ℕ) (r : Row) (rows : List Row) → hasWait r ≡ false → laneLines i (r ∷ rows) ≡ laneLines (suc i) rows
-unfolding laneLines
+pub no-wait-no-line : (i : ℕ) (r : Row) (rows : List Row) → hasWait r ≡ false → waitLines i (r ∷ rows) ≡ waitLines (suc i) rows
+unfolding waitLines
 no-wait-no-line i r rows none = rw none
 
 -- ---- the lines of small numbers are of one length: a cell of 4, six of 9 with a blank before each, and the line end
@@ -70,13 +70,13 @@ row-length name r short s =
     )
 
 -- a number of four digits fits the first column
-lanes-length : (i : ℕ) (rows : List Row) → i + length rows ≤ 10000 → ((k : ℕ) → Small (getD rows k emptyRow)) → length (laneLines i rows) ≡ lineLength * countPass hasWait rows
-unfolding laneLines
+lanes-length : (i : ℕ) (rows : List Row) → i + length rows ≤ 10000 → ((k : ℕ) → Small (getD rows k emptyRow)) → length (waitLines i rows) ≡ lineLength * countPass hasWait rows
+unfolding waitLines
 lanes-length i [] few small = refl
 lanes-length i (r ∷ rows) few small =
     let ih = lanes-length (suc i) rows (omega arith) (λ k. small (suc k)) in
     let line = row-length (decimal i) r (few-digits 3 i (omega arith)) (small 0) in
-    by-test (hasWait r) (λ t. rw t (omega (arith, ih, line, length-append (rowLine (decimal i) r) (laneLines (suc i) rows)))) (λ f. rw f (omega (arith, ih)))
+    by-test (hasWait r) (λ t. rw t (omega (arith, ih, line, length-append (rowLine (decimal i) r) (waitLines (suc i) rows)))) (λ f. rw f (omega (arith, ih)))
 
 pub lines-alike :
     (report : Report) → length (report .lane) ≤ 10000 → ((k : ℕ) → Small (getD (report .lane) k emptyRow)) → Small (report .all) →
@@ -89,12 +89,12 @@ lines-alike report few lanes all =
 pub empty-table :
     table emptyReport ≡
     ascii "lane     times       sum   largest      mean remainder   unended\n all         0         0         0         0         0         0\n"
-unfolding laneLines rowLine words decimalIn
+unfolding waitLines rowLine words decimalIn
 empty-table = refl
 
 pub two-lanes :
     table (record { lane = row 3 5 2 0 ∷ emptyRow ∷ row 0 0 0 1 ∷ []; all = row 3 5 2 1 }) ≡
     ascii
     "lane     times       sum   largest      mean remainder   unended\n   0         3         5         2         1         2         0\n   2         0         0         0         0         0         1\n all         3         5         2         1         2         1\n"
-unfolding laneLines rowLine words decimalIn
+unfolding waitLines rowLine words decimalIn
 two-lanes = refl

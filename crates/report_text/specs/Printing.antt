@@ -23,11 +23,11 @@ abbrev pub mostTableLine : ℕ
 mostTableLine = mostCell + mostNumbers
 
 -- the longest table: a line for each lane, the header and the line for all lanes
-abbrev pub mostLaneLines : ℕ
-mostLaneLines = mostLanes * mostTableLine
+abbrev pub mostWaitLines : ℕ
+mostWaitLines = mostLanes * mostTableLine
 
 abbrev pub mostTable : ℕ
-mostTable = mostLaneLines + 2 * mostTableLine
+mostTable = mostWaitLines + 2 * mostTableLine
 
 -- the table at the buffer's start, its length, and every other byte as it was; a shorter buffer is left as it was
 pub record TableMeets (report : Report) (out : List ℕ) (r : Printed) (out-left : List ℕ) : Type 0 where

@@ -39,13 +39,13 @@ abbrev pub hasWait : Row → Bool
 hasWait r = ltb 0 (r .times) || ltb 0 (r .unended)
 
 -- the line of a lane; without any wait it has none
-abbrev pub laneLine : ℕ → Row → List ℕ
-laneLine i r = cond (hasWait r) (rowLine (decimal i) r) []
+abbrev pub waitLine : ℕ → Row → List ℕ
+waitLine i r = cond (hasWait r) (rowLine (decimal i) r) []
 
 -- the lines of the lanes from lane i on, whose row is the first
-unfoldable pub laneLines : ℕ → List Row → List ℕ
-laneLines i [] = []
-laneLines i (r ∷ rows) = laneLine i r ++ laneLines (suc i) rows
+unfoldable pub waitLines : ℕ → List Row → List ℕ
+waitLines i [] = []
+waitLines i (r ∷ rows) = waitLine i r ++ waitLines (suc i) rows
 
 abbrev pub table : Report → List ℕ
-table report = header ++ (laneLines 0 (report .lane) ++ rowLine (ascii "all") (report .all))
+table report = header ++ (waitLines 0 (report .lane) ++ rowLine (ascii "all") (report .all))

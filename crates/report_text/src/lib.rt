@@ -6,8 +6,8 @@ ghost use lib.ListN.{length};
 ghost use Rattle.number_text.specs.Stored.{Stored};
 ghost use Rattle.printout.specs.Text.{ascii};
 ghost use Rattle.printout.specs.Print.{decimal, words};
-ghost use Rattle.report_text.specs.Table.{cell, hasWait, header, laneLine, laneLines, numbersOf, rowLine, table};
-ghost use Rattle.report_text.specs.Printing.{TableMeets, mostCell, mostLaneLines, mostNumbers, mostTable, mostTableLine};
+ghost use Rattle.report_text.specs.Table.{cell, hasWait, header, waitLine, waitLines, numbersOf, rowLine, table};
+ghost use Rattle.report_text.specs.Printing.{TableMeets, mostCell, mostWaitLines, mostNumbers, mostTable, mostTableLine};
 use answer_text::Printed;
 use column_text::put_blanks;
 use limits::MOST_LANES;
@@ -93,7 +93,7 @@ fn has_wait(row: Row) -> bool
 // The line of a lane; of one without any wait nothing.
 fn put_lane(out: &mut [u8], at: usize, lane: u64, row: Row) -> usize
     requires { ⌜ at + mostTableLine ≤ length (now out) ⌝ }
-    ensures { λ r. ⌜ Stored (laneLine lane row) (now (out .entry)) at (now (out .exit)) r × (r ≤ at + mostTableLine) ⌝ }
+    ensures { λ r. ⌜ Stored (waitLine lane row) (now (out .entry)) at (now (out .exit)) r × (r ≤ at + mostTableLine) ⌝ }
 {
     if !has_wait(row) {
         return at;
@@ -104,8 +104,8 @@ fn put_lane(out: &mut [u8], at: usize, lane: u64, row: Row) -> usize
 
 // The lines of the lanes.
 fn put_lanes(out: &mut [u8], at: usize, lanes: [Row; MOST_LANES]) -> usize
-    requires { ⌜ at + mostLaneLines ≤ length (now out) ⌝ }
-    ensures { λ r. ⌜ Stored (laneLines 0 lanes) (now (out .entry)) at (now (out .exit)) r × (r ≤ at + mostLaneLines) ⌝ }
+    requires { ⌜ at + mostWaitLines ≤ length (now out) ⌝ }
+    ensures { λ r. ⌜ Stored (waitLines 0 lanes) (now (out .entry)) at (now (out .exit)) r × (r ≤ at + mostWaitLines) ⌝ }
 {
     let mut end = at;
     let mut i: usize = 0;
