@@ -23,7 +23,7 @@ pub no-wait-no-line : (i : ℕ) (r : Row) (rows : List Row) → hasWait r ≡ fa
 unfolding waitLines
 no-wait-no-line i r rows none = rw none
 
--- ---- the lines of small numbers are of one length: a cell of 4, six of 9 with a blank before each, and the line end
+-- ---- each line is of one length where all numbers are below 10^9: a cell of 4, six of 9 with a blank before each, and the line end
 abbrev pub lineLength : ℕ
 lineLength = 65
 
@@ -78,6 +78,7 @@ lanes-length i (r ∷ rows) few small =
     let line = row-length (decimal i) r (few-digits 3 i (omega arith)) (small 0) in
     by-test (hasWait r) (λ t. rw t (omega (arith, ih, line, length-append (rowLine (decimal i) r) (waitLines (suc i) rows)))) (λ f. rw f (omega (arith, ih)))
 
+-- the table has that length for the header, for each lane with any wait, and for all lanes
 pub lines-alike :
     (report : Report) → length (report .lane) ≤ 10000 → ((k : ℕ) → Small (getD (report .lane) k emptyRow)) → Small (report .all) →
     length (table report) ≡ lineLength * (countPass hasWait (report .lane) + 2)

@@ -11,7 +11,7 @@ use Rattle.report.specs.declared.Report.{Report}
 use Rattle.report.specs.declared.Row.{Row}
 
 -- ---- cells
--- a text right-aligned: blanks up to a least width, and then the text; a longer text is not cut
+-- a text right-aligned: blanks (byte 32) up to a least width, and then the text; a longer text is not cut
 abbrev pub cell : ℕ → List ℕ → List ℕ
 cell width text = replicate (width - length text) 32 ++ text
 
@@ -30,6 +30,7 @@ header =
 abbrev pub numbersOf : Row → List ℕ
 numbersOf r = r .times ∷ r .sum ∷ r .largest ∷ meanOf (r .times) (r .sum) ∷ remainderOf (r .times) (r .sum) ∷ r .unended ∷ []
 
+-- the line of a row: the name of whose it is, and its numbers
 unfoldable pub rowLine : List ℕ → Row → List ℕ
 rowLine name r = tableLine name (map decimal (numbersOf r))
 
