@@ -1,14 +1,16 @@
 //! A second program by other hands for document 01, "The shared book of a
-//! grader line": clear rather than fast, to be held against `linebook`.
+//! grader line", and Wish 1: clear rather than fast, to be held against `linebook`.
 
 pub mod answer;
 pub mod cover;
 pub mod demand3;
 pub mod event;
+pub mod group;
 pub mod line;
 pub mod make;
 pub mod random;
 pub mod refuse;
+pub mod report;
 pub mod sheet;
 pub mod steps;
 pub mod stream;

@@ -11,7 +11,7 @@ fn mix(mut z: u64) -> u64 {
 }
 
 impl Random {
-    /// The numbers of sheet k of a seed.
+    /// The numbers of sheet k, or of group k, of a seed.
     pub fn for_sheet(seed: u64, k: u64) -> Random {
         let state = mix(seed.wrapping_add(0x9E37_79B9_7F4A_7C15));
         Random { state: mix(state ^ mix(k.wrapping_mul(0xD134_2543_DE82_EF95).wrapping_add(1))) }

@@ -1,8 +1,11 @@
-//! The reasons for refusing, one function for each number of document 01.
-//! Every reason is looked at for every event; the lowest is given.
+//! The reasons for refusing, one function for each number of document 01 and Wish 1.
+//! Every reason is looked at for every event, and the lowest is given; 17 alone is looked
+//! for once, after 1 and before the first event of a run with a report.
 
 use crate::event::{body_length, Event};
 use crate::line::*;
+use crate::report::Report;
+use crate::sheet::MOST_SHEET;
 
 /// Every number from 1 and 4 to 16 that applies to this event in this state.
 pub fn refusals(machine: &Machine, event: &Event) -> Vec<u8> {
@@ -208,6 +211,11 @@ pub fn refuse_16_records_do_not_fit(line: &Line, event: &Event) -> bool {
         }
         _ => false,
     }
+}
+
+/// 17. Any number of the report lent is 2^63 or more, or the sheet is over 65,536 bytes.
+pub fn refuse_17_report_or_sheet_too_large(report: &Report, sheet_bytes: usize) -> bool {
+    report.is_full() || sheet_bytes > MOST_SHEET
 }
 
 // ---- the parts of a sound line, for refusal 1 ----

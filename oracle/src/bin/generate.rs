@@ -1,12 +1,14 @@
 //! `generate SEED COUNT [--skip K]`: sheets K, K + 1, .. of a seed, as a stream.
 //! `--raw` writes the bare bytes without lengths (for COUNT 1).
+//! `generate groups SEED COUNT [--skip K]`: groups K, K + 1, .. of a seed, as a stream.
 
-use oracle_lib::make::sheet;
+use oracle_lib::make::{group, sheet};
 use oracle_lib::stream::write_item;
 use std::io::{self, BufWriter, Write};
 use std::process::ExitCode;
 
 struct Arguments {
+    groups: bool,
     seed: u64,
     count: u64,
     skip: u64,
@@ -16,16 +18,17 @@ struct Arguments {
 fn arguments() -> Option<Arguments> {
     let mut numbers = Vec::new();
     let (mut skip, mut raw) = (0, false);
-    let mut words = std::env::args().skip(1);
+    let mut words = std::env::args().skip(1).peekable();
+    let groups = words.next_if(|word| word == "groups").is_some();
     while let Some(word) = words.next() {
         match word.as_str() {
             "--skip" => skip = words.next()?.parse().ok()?,
-            "--raw" => raw = true,
+            "--raw" if !groups => raw = true,
             _ => numbers.push(word.parse().ok()?),
         }
     }
     match numbers.as_slice() {
-        [seed, count] => Some(Arguments { seed: *seed, count: *count, skip, raw }),
+        [seed, count] => Some(Arguments { groups, seed: *seed, count: *count, skip, raw }),
         _ => None,
     }
 }
@@ -33,7 +36,11 @@ fn arguments() -> Option<Arguments> {
 fn write_all(arguments: &Arguments) -> io::Result<()> {
     let mut out = BufWriter::new(io::stdout().lock());
     for k in arguments.skip..arguments.skip + arguments.count {
-        let bytes = sheet(arguments.seed, k);
+        let bytes = if arguments.groups {
+            group(arguments.seed, k).to_bytes()?
+        } else {
+            sheet(arguments.seed, k)
+        };
         if arguments.raw {
             out.write_all(&bytes)?;
         } else {
@@ -46,6 +53,7 @@ fn write_all(arguments: &Arguments) -> io::Result<()> {
 fn main() -> ExitCode {
     let Some(arguments) = arguments() else {
         eprintln!("use: generate SEED COUNT [--skip K] [--raw]");
+        eprintln!("     generate groups SEED COUNT [--skip K]");
         return ExitCode::from(2);
     };
     match write_all(&arguments) {

@@ -1,25 +1,81 @@
 //! `oracle`: one sheet on standard input, its printed lines on standard output.
 //! `oracle many`: a stream of sheets in, a stream of printed bytes out.
+//! `oracle report FILE...`: the sheets in the files run over one report, as a table.
+//! `oracle lent`: a stream of groups in, a stream of printed texts and reports left out.
 
+use oracle_lib::group::{left_bytes, Group};
 use oracle_lib::line::Search;
-use oracle_lib::sheet::print_sheet;
+use oracle_lib::report::Report;
+use oracle_lib::sheet::{print_sheet, print_sheet_with_report, MOST_SHEET};
 use oracle_lib::stream::{open_source, read_item, write_item};
 use std::io::{self, BufWriter, Read, Write};
 use std::process::ExitCode;
 
-fn one() -> io::Result<()> {
+/// Something was left out of the table; it was named on standard error.
+const LEFT_OUT: u8 = 1;
+
+fn one() -> io::Result<ExitCode> {
     let mut sheet = Vec::new();
     io::stdin().read_to_end(&mut sheet)?;
-    io::stdout().write_all(&print_sheet(&sheet, Search::AfterReleaser))
+    io::stdout().write_all(&print_sheet(&sheet, Search::AfterReleaser))?;
+    Ok(ExitCode::SUCCESS)
 }
 
-fn many() -> io::Result<()> {
+fn many() -> io::Result<ExitCode> {
     let mut source = open_source("-")?;
     let mut out = BufWriter::new(io::stdout().lock());
     while let Some(sheet) = read_item(&mut source)? {
         write_item(&mut out, &print_sheet(&sheet, Search::AfterReleaser))?;
     }
-    out.flush()
+    out.flush()?;
+    Ok(ExitCode::SUCCESS)
+}
+
+fn lent() -> io::Result<ExitCode> {
+    let mut source = open_source("-")?;
+    let mut out = BufWriter::new(io::stdout().lock());
+    while let Some(bytes) = read_item(&mut source)? {
+        let mut group = Group::of_bytes(&bytes)?;
+        let printed = group.run();
+        write_item(&mut out, &left_bytes(&printed, &group.report)?)?;
+    }
+    out.flush()?;
+    Ok(ExitCode::SUCCESS)
+}
+
+/// A file's sheet, or the sentence that says why there is none.
+fn sheet_of(name: &str) -> Result<Vec<u8>, String> {
+    let source = open_source(name).map_err(|error| error.to_string())?;
+    let mut sheet = Vec::new();
+    let most = MOST_SHEET as u64;
+    let read = source.take(most + 1).read_to_end(&mut sheet);
+    read.map_err(|error| format!("{name}: {error}"))?;
+    if sheet.len() > MOST_SHEET {
+        return Err(format!("{name}: sheet too long"));
+    }
+    Ok(sheet)
+}
+
+/// One report over all files. A file without a sheet is named, and the others still count.
+fn report(names: &[&str]) -> io::Result<ExitCode> {
+    if names.iter().filter(|name| **name == "-").count() > 1 {
+        return Err(io::Error::other("use: oracle report FILE...  (one may be -)"));
+    }
+    let mut report = Report::no_waiting();
+    let mut code = ExitCode::SUCCESS;
+    for name in names {
+        match sheet_of(name) {
+            Ok(sheet) => {
+                print_sheet_with_report(&sheet, Search::AfterReleaser, &mut report);
+            }
+            Err(sentence) => {
+                eprintln!("oracle: {sentence}");
+                code = ExitCode::from(LEFT_OUT);
+            }
+        }
+    }
+    io::stdout().write_all(report.table().as_bytes())?;
+    Ok(code)
 }
 
 fn main() -> ExitCode {
@@ -28,10 +84,14 @@ fn main() -> ExitCode {
     let done = match words.as_slice() {
         [] => one(),
         ["many"] => many(),
-        _ => Err(io::Error::other("use: oracle | oracle many")),
+        ["lent"] => lent(),
+        ["report", names @ ..] => report(names),
+        _ => {
+            Err(io::Error::other("use: oracle | oracle many | oracle report FILE... | oracle lent"))
+        }
     };
     match done {
-        Ok(()) => ExitCode::SUCCESS,
+        Ok(code) => code,
         Err(error) => {
             eprintln!("oracle: {error}");
             ExitCode::from(2)

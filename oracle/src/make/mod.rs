@@ -1,6 +1,7 @@
-//! Made-up sheets. Sheet k of a seed depends on the seed and k alone.
+//! Made-up sheets and groups. Sheet or group k of a seed depends on the seed and k alone.
 
 mod candidate;
+mod groups;
 mod plain;
 mod segments;
 mod walk;
@@ -8,6 +9,7 @@ mod walk;
 use crate::event::body_length;
 use crate::random::Random;
 use crate::sheet::MOST_SHEET;
+pub use groups::{first_sheet_sort_of, group, group_sort_of, GroupSort, WaitSort};
 pub use walk::Walk;
 
 /// A sort of sheet.

@@ -23,7 +23,7 @@ impl Walk<'_> {
     }
 
     /// Refused events, one time in `n`.
-    fn maybe_refused(&mut self, n: u64) {
+    pub fn maybe_refused(&mut self, n: u64) {
         if self.random.one_in(n) {
             self.refused_event();
         }
