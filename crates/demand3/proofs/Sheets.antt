@@ -29,6 +29,8 @@ use Rattle.steps.proofs.Chains.{cut-chain, unlisted-chain}
 use Rattle.steps.proofs.Keeps.{GoodState, keeps, unopened-good}
 use Rattle.printout.specs.Run.{Ran, answered, done, run, runOn}
 use Rattle.printout.proofs.Runs.{goes-on}
+use Rattle.event.proofs.Lengths.{reads}
+use Rattle.trace.proofs.SheetCalls.{read-event, read-refused}
 use Rattle.trace.specs.Trace.{CallBytes, afterAll, callIn}
 use Rattle.trace.specs.SheetCalls.{callAt, callsFrom, callsIn}
 
@@ -68,41 +70,6 @@ refused-alone x g k e =
     let rest : IsList (stepBy nextLane x (callIn g) .after) [] (done x) = rw (ap (λ (r : Result). r .after) e) (no-calls x) in
     subst (λ (a : Answer). IsList x (g ∷ []) (answered a (done x))) (ap (λ (r : Result). r .answer) e) (one-more x g [] (done x) rest)
 
--- an event that was read is listed, and it is the event of the call there
-record Called (c : Call) (e : Event) : Type 0 where
-  pub is : c ≡ given e
-  pub listed : isListed (kindOf e) ≡ true
-
-module _ (sheet : List ℕ) (at : ℕ) where
-  -- what is read there says what the call is
-  called-event : (c : Call) (n : ℕ) (e : Event) (next : Cursor) → readingOf n c ≡ Reading.Event e next → Called c e
-  called-event (given f) n e next q =
-      by-test (isListed (kindOf f))
-      (λ t. let r : Reading.Event f (record { at = n }) ≡ Reading.Event e next = rw t at q in let z : f ≡ e = cc in record { is = ap given z; listed = rw (← z) t })
-      (λ t. let r : Reading.Refused 2 ≡ Reading.Event e next = rw t at q in let z : _≡_ {A = ℕ} 0 1 = cc in absurd (omega arith))
-  called-event cutShort n e next q = let z : _≡_ {A = ℕ} 0 1 = cc in absurd (omega arith)
-
-  refused-step : (x : State) → sound (x .line) (length (x .book)) ≡ true → (c : Call) (n k : ℕ) → readingOf n c ≡ Reading.Refused k → stepBy nextLane x c ≡ refuse k x
-  refused-step x ok (given f) n k q =
-      by-test (isListed (kindOf f))
-      (λ t. let r : Reading.Event f (record { at = n }) ≡ Reading.Refused k = rw t at q in let z : _≡_ {A = ℕ} 0 1 = cc in absurd (omega arith))
-      (λ t. let r : Reading.Refused 2 ≡ Reading.Refused k = rw t at q in let z : 2 ≡ k = cc in rw (not-listed f t, ← z) (unlisted-chain nextLane x ∙ rw ok))
-  refused-step x ok cutShort n k q = let z : 3 ≡ k = cc in rw (← z) (cut-chain nextLane x ∙ rw ok)
-
-  read-event : (e : Event) (next : Cursor) → readAt sheet at ≡ Reading.Event e next → Called (callIn (callAt sheet at)) e
-  unfolding readAt
-  read-event e next q =
-      by-test (leb (length sheet) at)
-      (λ past. let r : Reading.End ≡ Reading.Event e next = rw past at q in let z : _≡_ {A = ℕ} 0 1 = cc in absurd (omega arith))
-      (λ more. called-event (callIn (callAt sheet at)) (at + 1 + bodyLength (getD sheet at 0)) e next (rw more at q))
-
-  pub read-refused : (x : State) → sound (x .line) (length (x .book)) ≡ true → (k : ℕ) → readAt sheet at ≡ Reading.Refused k → stepBy nextLane x (callIn (callAt sheet at)) ≡ refuse k x
-  unfolding readAt
-  read-refused x ok k q =
-      by-test (leb (length sheet) at)
-      (λ past. let r : Reading.End ≡ Reading.Refused k = rw past at q in let z : _≡_ {A = ℕ} 0 1 = cc in absurd (omega arith))
-      (λ more. refused-step x ok (callIn (callAt sheet at)) (at + 1 + bodyLength (getD sheet at 0)) k (rw more at q))
-
 on-is-list : (most : ℕ) (x : State) (sheet : List ℕ) (at : ℕ) → GoodState x → IsList x (callsFrom most sheet at) (runOn most x sheet at)
 unfolding runOn callsFrom
 on-is-list zero x sheet at G = no-calls x
@@ -116,9 +83,8 @@ on-is-list (suc most) x sheet at G = go (readAt sheet at) refl (λ y n g. on-is-
     go Reading.End q later = rw q (no-calls x)
     go (Reading.Refused k) q later = rw q (refused-alone x (callAt sheet at) k (read-refused sheet at x ok k q))
     go (Reading.Event e next) q later =
-        let C = read-event sheet at e next q in
-        rw (q, goes-on x e ok (C .listed))
-        (event-more x (callAt sheet at) (callsFrom most sheet (next .at)) e _ (C .is) (later (callEvent x e .after) (next .at) (keeps G (steps nextLane x (given e)))))
+        rw (q, goes-on x e ok (reads sheet at e next q .listed))
+        (event-more x (callAt sheet at) (callsFrom most sheet (next .at)) e _ (read-event sheet at e next q) (later (callEvent x e .after) (next .at) (keeps G (steps nextLane x (given e)))))
 
 good-run-is-list : (x : State) (sheet : List ℕ) → GoodState x → IsList x (callsIn sheet) (run x sheet)
 unfolding run

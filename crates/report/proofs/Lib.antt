@@ -1,4 +1,6 @@
 -- The laws of the report of waiting.
 pub mod Rows
+pub mod Lanes
+pub mod Shape
 pub mod Means
 pub mod Trials

@@ -34,8 +34,8 @@ use Rattle.demand3.proofs.Sheets.{sound-run-is-list}
 use Rattle.demand3.proofs.Theorem.{after-good, told-waits}
 use Rattle.demand3.proofs.Trace.{distance-some, entryOn, then, then-good, turn-on, waiter-other}
 use Rattle.demand3.proofs.Turn.{Turn, nearer, no-release, turn-up, up-inside, wakes-waiter}
-use Rattle.report_laws.proofs.Counting.{own-lane-told}
-use Rattle.report_laws.proofs.Grown.{by-report, lane-row-grows, rowFor}
+use Rattle.report.proofs.Lanes.{lane-row-grows, own-lane-told, rowFor}
+use Rattle.report_laws.proofs.Grown.{by-report}
 use Rattle.report_laws.proofs.Lanes.{open-lanes-stay}
 
 -- ---- one wait

@@ -18,18 +18,12 @@ use Rattle.report.specs.Rows.{emptyRow, joined}
 use Rattle.report.specs.Growth.{tellsAny, waitRow, waitsTold}
 use Rattle.report.specs.Lent.{gets17, isSound, reportAfter}
 use Rattle.report.proofs.Rows.{joined-empty}
-use Rattle.report_laws.proofs.Grown.{lane-row-grows, rowFor, run-grows}
+use Rattle.report.proofs.Lanes.{lane-row-grows, rowFor}
+use Rattle.report_laws.proofs.Grown.{run-grows}
 
 -- the waits of a row, ended or not
 abbrev pub waitsIn : Row → ℕ
 waitsIn r = r .times + r .unended
-
--- ---- a call tells the lane that makes it, and no other
-pub told-is-caller : (i : ℕ) (e : Entry) → tellsToWait i e ≡ true → e .lane ≡ i
-told-is-caller i e t = eqb-true (e .lane) i (and-right (isAccepted 0x02 e) (eqb (e .lane) i) (and-left (wantsBy i e) (answersWaits e) t))
-
-pub own-lane-told : (i : ℕ) (e : Entry) → tellsToWait i e ≡ true → tellsAny e ≡ true
-own-lane-told i e t = ap (λ (k : ℕ). tellsToWait k e) (told-is-caller i e t) ∙ t
 
 -- ---- over any list of calls and any test
 one-wait : (i : ℕ) (later : List Entry) → waitsIn (waitRow i later) ≡ 1

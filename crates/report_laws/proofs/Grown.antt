@@ -15,25 +15,8 @@ use Rattle.report.specs.declared.Row.{Row}
 use Rattle.report.specs.Rows.{emptyRow, joined}
 use Rattle.report.specs.Growth.{allWaits, grown, grownFrom, laneWaits}
 use Rattle.report.specs.Lent.{cannotCount, gets17, isSound, reportAfter}
+use Rattle.report.proofs.Lanes.{lane-row-grows, rowFor}
 use Rattle.report.proofs.Rows.{joined-assoc, joined-comm}
-
-abbrev pub rowFor : Report → ℕ → Row
-rowFor report i = getD (report .lane) i emptyRow
-
--- ---- each row
-grown-from : (rows : List Row) (first i : ℕ) (es : List Entry) → i < length rows → getD (grownFrom first rows es) i emptyRow ≡ joined (getD rows i emptyRow) (laneWaits (first + i) es)
-unfolding grownFrom
-grown-from [] first i es h = absurd (omega arith)
-grown-from (r ∷ rows) first zero es h = let e : first + 0 ≡ first = omega arith in rw e
-grown-from (r ∷ rows) first (suc i) es h = let e : first + suc i ≡ suc first + i = omega arith in rw e (grown-from rows (suc first) i es (omega arith))
-
-from-length : (rows : List Row) (first : ℕ) (es : List Entry) → length (grownFrom first rows es) ≡ length rows
-unfolding grownFrom
-from-length [] first es = refl
-from-length (r ∷ rows) first es = ap suc (from-length rows (suc first) es)
-
-pub lane-row-grows : (report : Report) (es : List Entry) (i : ℕ) → i < length (report .lane) → rowFor (grown report es) i ≡ joined (rowFor report i) (laneWaits i es)
-lane-row-grows report es i h = rw (zero-add i) at (grown-from (report .lane) 0 i es h)
 
 -- ---- after a run that gets neither 1 nor 17
 pub run-grows : (x : State) (report : Report) (sheet : List ℕ) → isSound x ≡ true → gets17 x report sheet ≡ false → reportAfter x report sheet ≡ grown report (sheetEntries x sheet)

@@ -28,7 +28,8 @@ use Rattle.demand3.proofs.Goes.{only-turn}
 use Rattle.demand3.proofs.Theorem.{told-waits}
 use Rattle.demand3.proofs.Trace.{entryOn, then, then-good, turn-on}
 use Rattle.demand3.proofs.Turn.{Turn, differ, nearer, no-release, wakes-waiter}
-use Rattle.report_laws.proofs.Counting.{none-told-none-counted, told-is-caller}
+use Rattle.report.proofs.Lanes.{told-is-caller}
+use Rattle.report_laws.proofs.Counting.{none-told-none-counted}
 
 -- ---- one call while lane i waits
 module _ (x : State) (i : ℕ) (wi : isWaiting (phaseAt (x .line) i) ≡ true) where

@@ -4,3 +4,4 @@ pub mod Slots
 pub mod Growing
 pub mod Totals
 pub mod Marks
+pub mod Reports
