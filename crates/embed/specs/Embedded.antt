@@ -7,6 +7,7 @@ use lib.Dec.{ltb}
 use lib.ListN.{length}
 use Rattle.steps.specs.State.{State}
 use Rattle.run.specs.Runs.{leftByRun, printedBy, reportBy, textFits, textIn}
+use Rattle.report.specs.Rows.{emptyReport}
 use Rattle.report.specs.declared.Report.{Report}
 use Rattle.event.specs.ReadWrite.{readAt}
 use Rattle.event.specs.declared.Reading.{Reading}
@@ -22,24 +23,24 @@ abbrev pub lengthPrinted : Printed → ℕ
 lengthPrinted (Printed.Length n) = n
 lengthPrinted Printed.TooShort = noLength
 
--- a run of a sheet from state x: the length that is answered, the book, the text, and that it lies within its buffer
-pub record LinkedRun (x : State) (sheet text : List ℕ) (r : ℕ) (book-left text-left : List ℕ) : Type 0 where
-  pub answer : r ≡ lengthPrinted (printedBy x sheet text)
-  pub book-after : book-left ≡ leftByRun x sheet text .book
-  pub text-after : text-left ≡ textIn x sheet text
-  pub fits : textFits (printedBy x sheet text) (length text) ≡ true
-
 -- a length and a report, as one
 abbrev pub linkedOf : ℕ → Report → Linked
 linkedOf length report = record { length = length; report = report }
 
--- the same run with a report: and the report that it leaves
+-- a run of a sheet from state x: the length that is answered, the book, the text, that it lies within its buffer, and the report
 pub record LinkedMeets (x : State) (report : Report) (sheet text : List ℕ) (r : Linked) (book-left text-left : List ℕ) : Type 0 where
-  pub answer : r .length ≡ lengthPrinted (printedBy x sheet text)
-  pub book-after : book-left ≡ leftByRun x sheet text .book
-  pub text-after : text-left ≡ textIn x sheet text
+  pub answer : r .length ≡ lengthPrinted (printedBy x report sheet text)
+  pub book-after : book-left ≡ leftByRun x report sheet text .book
+  pub text-after : text-left ≡ textIn x report sheet text
   pub report-after : r .report ≡ reportBy x report sheet text
-  pub fits : textFits (printedBy x sheet text) (length text) ≡ true
+  pub fits : textFits (printedBy x report sheet text) (length text) ≡ true
+
+-- the same with a report of no waiting, of which nothing is handed back
+pub record LinkedRun (x : State) (sheet text : List ℕ) (r : ℕ) (book-left text-left : List ℕ) : Type 0 where
+  pub answer : r ≡ lengthPrinted (printedBy x emptyReport sheet text)
+  pub book-after : book-left ≡ leftByRun x emptyReport sheet text .book
+  pub text-after : text-left ≡ textIn x emptyReport sheet text
+  pub fits : textFits (printedBy x emptyReport sheet text) (length text) ≡ true
 
 abbrev pub textBound : ℕ → ℕ
 textBound n = cond (ltb 329406144173384848 n) noLength (mostText n)

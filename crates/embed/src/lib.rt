@@ -10,7 +10,6 @@ use event::Cursor;
 use event::Reading;
 use line::Line;
 use report::Report;
-use run::run;
 use run::run_reported;
 use run_text::MOST_LAST;
 
@@ -30,20 +29,8 @@ fn length_of(printed: Printed) -> usize
     }
 }
 
-// Runs a whole sheet from an unopened line over a lent book; the printed lines stand at the start of `text`. The answer is their length,
-// or the greatest number where `text` may be too short, with nothing altered.
-#[no_mangle]
-pub extern "C" fn gudlemi_run(sheet: &[u8], book: &mut [u8], text: &mut [u8]) -> usize
-    ensures { λ r. ⌜ LinkedRun (fresh (now (book .entry))) (now (sheet .entry)) (now (text .entry)) r (now (book .exit)) (now (text .exit)) ⌝ }
-{
-    let line = Line::unopened();
-    let ran = run(line, book, sheet, text);
-    let printed = ran.printed;
-    length_of(printed)
-}
-
-// Runs a whole sheet as `gudlemi_run` does, with a report, by value.
-pub fn run_linked(sheet: &[u8], book: &mut [u8], text: &mut [u8], report: Report) -> Linked
+// Runs a whole sheet from an unopened line over a lent book, with a report by value: the one way in which the linked functions run.
+fn run_linked(sheet: &[u8], book: &mut [u8], text: &mut [u8], report: Report) -> Linked
     ensures { λ r. ⌜ LinkedMeets (fresh (now (book .entry))) report (now (sheet .entry)) (now (text .entry)) r (now (book .exit)) (now (text .exit)) ⌝ }
 {
     let line = Line::unopened();
@@ -55,6 +42,17 @@ pub fn run_linked(sheet: &[u8], book: &mut [u8], text: &mut [u8], report: Report
         length,
         report: left,
     }
+}
+
+// Runs a whole sheet from an unopened line over a lent book; the printed lines stand at the start of `text`. The answer is their length,
+// or the greatest number where `text` may be too short, with nothing altered. It has a report of
+// its own, which is dropped; so 17 comes only for a sheet that is too long.
+#[no_mangle]
+pub extern "C" fn gudlemi_run(sheet: &[u8], book: &mut [u8], text: &mut [u8]) -> usize
+    ensures { λ r. ⌜ LinkedRun (fresh (now (book .entry))) (now (sheet .entry)) (now (text .entry)) r (now (book .exit)) (now (text .exit)) ⌝ }
+{
+    let ran = run_linked(sheet, book, text, Report::empty());
+    ran.length
 }
 
 // Runs a whole sheet as `gudlemi_run` does, over a lent report, which grows in place.

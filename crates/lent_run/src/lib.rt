@@ -1,6 +1,6 @@
 // A report lent to a sheet's run, which grows in place: a thin function over the run by value.
 ghost use Rattle.steps.specs.Meets.{stateOf};
-ghost use Rattle.run.specs.Runs.{ReportedMeets, reportedOf};
+ghost use Rattle.run.specs.Runs.{RunMeets, reportedOf};
 use line::Line;
 use report::Report;
 use run::RunOutcome;
@@ -14,7 +14,7 @@ pub fn run_lent(
     out: &mut [u8],
     report: &mut Report,
 ) -> RunOutcome
-    ensures { λ r. ⌜ ReportedMeets (stateOf line (now (book .entry))) (now (report .entry)) (now (sheet .entry)) (now (out .entry)) (reportedOf r (now (report .exit))) (now (book .exit)) (now (out .exit)) ⌝ }
+    ensures { λ r. ⌜ RunMeets (stateOf line (now (book .entry))) (now (report .entry)) (now (sheet .entry)) (now (out .entry)) (reportedOf r (now (report .exit))) (now (book .exit)) (now (out .exit)) ⌝ }
 {
     let ran = run_reported(line, book, sheet, out, *report);
     *report = ran.report;

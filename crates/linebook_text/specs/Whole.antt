@@ -12,6 +12,7 @@ use Rattle.printout.specs.Print.{linebook}
 use Rattle.run_text.specs.RunText.{mostText}
 use Rattle.printout.specs.Text.{ascii}
 use Rattle.answer_text.specs.declared.Printed.{Printed}
+use Rattle.report.specs.Rows.{emptyReport}
 use Rattle.run.specs.Runs.{leftByRun, printedBy, textFits, textIn}
 
 abbrev pub isTooLong : List ℕ → Bool
@@ -25,13 +26,13 @@ abbrev pub tooLongText : List ℕ → List ℕ
 tooLongText out = cond (ltb (length out) 15) out (sets out 0 (ascii "sheet too long\n"))
 
 abbrev pub sheetPrinted : List ℕ → List ℕ → List ℕ → Printed
-sheetPrinted book sheet out = cond (isTooLong sheet) (tooLongPrinted out) (printedBy (fresh book) sheet out)
+sheetPrinted book sheet out = cond (isTooLong sheet) (tooLongPrinted out) (printedBy (fresh book) emptyReport sheet out)
 
 abbrev pub textOf : List ℕ → List ℕ → List ℕ → List ℕ
-textOf book sheet out = cond (isTooLong sheet) (tooLongText out) (textIn (fresh book) sheet out)
+textOf book sheet out = cond (isTooLong sheet) (tooLongText out) (textIn (fresh book) emptyReport sheet out)
 
 abbrev pub bookOf : List ℕ → List ℕ → List ℕ → List ℕ
-bookOf book sheet out = cond (isTooLong sheet) book (leftByRun (fresh book) sheet out .book)
+bookOf book sheet out = cond (isTooLong sheet) book (leftByRun (fresh book) emptyReport sheet out .book)
 
 -- the line of a sheet that is too long: what is answered, and the buffer
 pub record TooLongMeets (out : List ℕ) (r : Printed) (out-left : List ℕ) : Type 0 where

@@ -3,7 +3,8 @@ ghost use Rattle.linebook_text.specs.Whole.{SheetMeets, TooLongMeets};
 use answer_text::Printed;
 use limits::MOST_SHEET;
 use line::Line;
-use run::run;
+use report::Report;
+use run::run_reported;
 use word_text::LINE_END;
 use word_text::put_word;
 
@@ -25,6 +26,6 @@ pub fn print_sheet(sheet: &[u8], book: &mut [u8], out: &mut [u8]) -> Printed
         return print_too_long(out);
     }
     let line = Line::unopened();
-    let ran = run(line, book, sheet, out);
+    let ran = run_reported(line, book, sheet, out, Report::empty());
     ran.printed
 }

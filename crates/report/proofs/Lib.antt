@@ -2,5 +2,7 @@
 pub mod Rows
 pub mod Lanes
 pub mod Shape
+pub mod Refusal
+pub mod Grown
 pub mod Means
 pub mod Trials

@@ -28,7 +28,7 @@ use Rattle.demand3.proofs.Trace.{entryOn, then, then-good}
 use Rattle.demand3.proofs.Turn.{up-inside}
 use Rattle.report.proofs.Lanes.{joinedRows, rows-grow}
 use Rattle.wait_counts.proofs.Reports.{all-waits-are-lanes-joined}
-use Rattle.report_laws.proofs.Grown.{by-report}
+use Rattle.report.proofs.Grown.{by-report}
 
 -- where the row for all lanes is the lanes' rows joined, it is so after a run
 pub all-row-stays-lanes-joined : (x : State) (report : Report) (sheet : List ℕ) → Shaped (x .line) → length (report .lane) ≡ mostLanes → report .all ≡ joinedRows (report .lane)

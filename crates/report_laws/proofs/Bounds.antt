@@ -35,7 +35,7 @@ use Rattle.demand3.proofs.Theorem.{after-good, told-waits}
 use Rattle.demand3.proofs.Trace.{distance-some, entryOn, then, then-good, turn-on, waiter-other}
 use Rattle.demand3.proofs.Turn.{Turn, nearer, no-release, turn-up, up-inside, wakes-waiter}
 use Rattle.report.proofs.Lanes.{lane-row-grows, own-lane-told, rowFor}
-use Rattle.report_laws.proofs.Grown.{by-report}
+use Rattle.report.proofs.Grown.{by-report}
 use Rattle.report_laws.proofs.Lanes.{open-lanes-stay}
 
 -- ---- one wait

@@ -19,7 +19,7 @@ use Rattle.report.specs.Growth.{tellsAny, waitRow, waitsTold}
 use Rattle.report.specs.Lent.{gets17, isSound, reportAfter}
 use Rattle.report.proofs.Rows.{joined-empty}
 use Rattle.report.proofs.Lanes.{lane-row-grows, rowFor}
-use Rattle.report_laws.proofs.Grown.{run-grows}
+use Rattle.report.proofs.Grown.{run-grows}
 
 -- the waits of a row, ended or not
 abbrev pub waitsIn : Row → ℕ

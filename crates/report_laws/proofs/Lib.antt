@@ -1,6 +1,4 @@
 -- The laws of the report of waiting over runs.
-pub mod Refusal
-pub mod Grown
 pub mod Counting
 pub mod Releases
 pub mod Lanes

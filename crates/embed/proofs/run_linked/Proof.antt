@@ -7,23 +7,20 @@ use Rattle.line.specs.Line.{unopened}
 use Rattle.report.specs.declared.Report.{Report}
 use Rattle.steps.specs.Meets.{stateOf}
 use Rattle.steps.specs.State.{fresh}
-use Rattle.run.specs.Runs.{ReportedMeets}
+use Rattle.run.specs.Runs.{RunMeets}
 use Rattle.run.specs.declared.Reported.{Reported}
+use Rattle.linebook_text.proofs.Fresh.{from-unopened}
 use Rattle.embed.specs.Embedded.{lengthPrinted}
 use borrow.Author.Needs.{needs}
 use Rattle.embed.proofs.run_linked.Statement.{statement}
 use Rattle.embed.proofs.run_linked.Tie as tie
-
-from-unopened : (l : Line) (book : List ℕ) (report : Report) (sheet text : List ℕ) (o : Reported) (book′ text′ : List ℕ) → l ≡ unopened → ReportedMeets (stateOf l book) report sheet text o book′ text′ → ReportedMeets (fresh book) report sheet text o book′ text′
-from-unopened l book report sheet text o book′ text′ e m = subst (λ (k : Line). ReportedMeets (stateOf k book) report sheet text o book′ text′) e m
 
 returns : tie.Need-returns
 returns c =
     let r = c .before .before .before .before .before .before in
     let u = r .before .before .before in
     let m = from-unopened _ _ _ _ _ _ _ _ (u .unopened .ensures) (r .run-reported .ensures) in
-    let n = m .run in
-    record { answer = c .length-of .ensures ∙ ap lengthPrinted (n .answer); book-after = n .book; text-after = n .text; report-after = m .report-left; fits = rw (n .answer) at (n .fits) }
+    record { answer = c .length-of .ensures ∙ ap lengthPrinted (m .answer); book-after = m .book; text-after = m .text; report-after = m .report-left; fits = rw (m .answer) at (m .fits) }
 
 pub run-linked-spec : {M : Type 1} → statement M
 run-linked-spec =

@@ -8,7 +8,7 @@ use Rattle.line.proofs.Line.Laws as L′
 use Rattle.run.proofs.RunOutcome as O
 use Rattle.run.proofs.RunOutcome.Laws as O′
 use Rattle.steps.specs.Meets.{stateOf}
-use Rattle.run.specs.Runs.{ReportedMeets, outcomeOf}
+use Rattle.run.specs.Runs.{RunMeets, outcomeOf}
 use Rattle.report.specs.declared.Report.{Report}
 use Rattle.run.specs.declared.Reported.{Reported}
 use Rattle.report.proofs.Report as T
@@ -103,7 +103,7 @@ module _ {M : Type 1} (𝓤 : URA M) (H : Heap 𝓤) (A : Atoms 𝓤) (W : Given
 
   -- what the callee says of its result, of the book and of the buffer
   abbrev Said : Reported → List ℕ → List ℕ → Type 0
-  Said r zs ys = ReportedMeets (stateOf ln (now bk)) h (now sh) (now ob) r zs ys
+  Said r zs ys = RunMeets (stateOf ln (now bk)) h (now sh) (now ob) r zs ys
 
   exits : (r : Reported) (zs ys : List ℕ) → Said r zs ys → length zs ≡ length (now bk) → length ys ≡ length (now ob) → (u : Val) → Is O.the-row (outcomeOf r) (u ∷ [])
       → ent 𝓤 (⋆ 𝓤 H A (‵ (fobs γ (R .coded .code (r .report))) ∷ ‵ (fbor κ (Body (mem R) b o γ)) ∷ ‵ (flft κ q) ∷ Toks ∷ ‵ (finally u8 (ob .name) ys) ∷ ‵ (finally u8 (bk .name) zs) ∷ ‵ Sheet ∷ [])) (Post u)

@@ -1,6 +1,6 @@
 -- `print_sheet` meets its contract.
 use Prim.Native.Nat.{ℕ}
-use mathlib.Core.Path.{_≡_, refl, sym, subst}
+use mathlib.Core.Path.{_≡_, refl, sym, subst, _∙_}
 use mathlib.Core.Bool.{true}
 use mathlib.Core.List.{List}
 use lib.Dec.{ltb}
@@ -10,8 +10,8 @@ use Rattle.lists.proofs.Tests.{by-test}
 use Rattle.answer_text.specs.declared.Printed.{Printed}
 use Rattle.run.specs.Runs.{textFits}
 use Rattle.linebook_text.specs.Whole.{tooLongPrinted}
-use Rattle.linebook_text.proofs.Fresh.{from-unopened}
-use Rattle.linebook_text.proofs.Linebook.{prints-linebook}
+use Rattle.linebook_text.proofs.Fresh.{from-empty}
+use Rattle.linebook_text.proofs.Linebook.{not-long-book, not-long-printed, not-long-text, prints-linebook}
 use borrow.Author.Needs.{needs}
 use Rattle.linebook_text.proofs.print_sheet.Statement.{statement}
 use Rattle.linebook_text.proofs.print_sheet.Tie as tie
@@ -37,17 +37,20 @@ returns c =
 returns-2 : tie.Need-returns-2
 returns-2 c =
     let r = c .before .before .before .before in
-    let u = r .before .before .before in
+    let n = r .before in
+    let u = n .before .before .before in
     let e = u .before in
     let short = le-ltb _ _ (e .if1 .left) in
-    let m = from-unopened _ _ _ _ _ _ _ (u .unopened .ensures) (r .run .ensures) in
+    let m = from-empty _ _ _ _ _ _ _ _ (u .unopened .ensures) (n .empty .ensures) (r .run-reported .ensures) in
     let a = e .before .before .before .before .args in
+    let answer = m .answer ∙ sym (not-long-printed (a .book .now) (a .sheet .now) (a .out .now) short) in
+    let text = m .text ∙ sym (not-long-text (a .book .now) (a .sheet .now) (a .out .now) short) in
     record {
-      answer = rw short (m .answer);
-      book-after = rw short (m .book);
-      text = rw short (m .text);
+      answer = answer;
+      book-after = m .book ∙ sym (not-long-book (a .book .now) (a .sheet .now) (a .out .now) short);
+      text = text;
       fits = m .fits;
-      whole = λ b h. rw (m .answer, m .text) (rw short at (prints-linebook (a .book .now) (a .sheet .now) (a .out .now) b h));
+      whole = λ b h. rw (answer, text) (prints-linebook (a .book .now) (a .sheet .now) (a .out .now) b h);
     }
 
 pub print-sheet-spec : {M : Type 1} → statement M
@@ -57,6 +60,7 @@ print-sheet-spec =
     (λ c κs. search needs)
     (λ c. search needs)
     returns
+    (λ c κs. search needs)
     (λ c κs. search needs)
     (λ c κs. search needs)
     (λ c. search needs)

@@ -10,13 +10,13 @@ use Rattle.lists.proofs.Tests.{at-test}
 use Rattle.steps.specs.State.{State}
 use Rattle.trace.specs.Trace.{Entry}
 use Rattle.trace.specs.SheetCalls.{sheetEntries}
 use Rattle.report.specs.declared.Report.{Report}
 use Rattle.report.specs.declared.Row.{Row}
 use Rattle.report.specs.Rows.{emptyRow, joined}
 use Rattle.report.specs.Growth.{allWaits, grown, grownFrom, laneWaits}
 use Rattle.report.specs.Lent.{cannotCount, gets17, isSound, reportAfter}
-use Rattle.report.proofs.Lanes.{lane-row-grows, rowFor}
+use Rattle.report.proofs.Lanes.{from-length, lane-row-grows, rowFor}
 use Rattle.report.proofs.Rows.{joined-assoc, joined-comm}
 
 -- ---- after a run that gets neither 1 nor 17
 pub run-grows : (x : State) (report : Report) (sheet : List ℕ) → isSound x ≡ true → gets17 x report sheet ≡ false → reportAfter x report sheet ≡ grown report (sheetEntries x sheet)
