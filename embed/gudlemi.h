@@ -48,7 +48,7 @@ extern "C" {
 #endif
 
 /* The version that this header is of: 10,000 for its first part, 100 for the second, 1 for the third. */
-#define GUDLEMI_VERSION 10100
+#define GUDLEMI_VERSION 10200
 
 /* gudlemi_run: `text` may be too short for the printed lines. The greatest number, which is no length. */
 #define GUDLEMI_TOO_SHORT ((size_t)-1)

@@ -1,31 +1,26 @@
 -- The lists of demand 3 are all that is called: a call made with an event is the call of its bytes, and the run of a sheet is a list of calls.
-use Prim.Native.Nat.{ℕ, zero, suc, _+_}
-use mathlib.Core.Path.{_≡_, refl, sym, ap, _∙_, subst}
+use Prim.Native.Nat.{ℕ, zero, suc}
+use mathlib.Core.Path.{_≡_, refl, sym, ap, subst}
 use mathlib.Core.Logic.{_⊎_, inl, inr}
 use mathlib.Core.Bool.{true}
 use mathlib.Core.List.{List, [], _∷_, append-nil, map}
-use native.Mathlib.Omega.{arith}
-use lib.Dec.{leb}
-use lib.ListN.{getD, length}
-use Rattle.lists.proofs.Tests.{by-test}
+use lib.ListN.{length}
 use Rattle.line.specs.Line.{Shaped}
 use Rattle.line.specs.Sound.{sound}
 use Rattle.line.proofs.Facts.{good-of, sound-of}
 use Rattle.waitlist.specs.NextLane.{nextLane}
-use Rattle.event.specs.Kinds.{bodyLength, isListed}
-use Rattle.event.specs.Event.{Call, cutShort, given, kindOf}
-use Rattle.event.specs.ReadWrite.{readAt, readingOf}
+use Rattle.event.specs.Kinds.{isListed}
+use Rattle.event.specs.Event.{given, kindOf}
+use Rattle.event.specs.ReadWrite.{readAt}
 use Rattle.event.specs.Typed.{Typed}
-use Rattle.event.specs.declared.Cursor.{Cursor}
 use Rattle.event.specs.declared.Event.{Event}
 use Rattle.event.specs.declared.Reading.{Reading}
-use Rattle.event.proofs.ByKind.{listed-or, not-listed}
+use Rattle.event.proofs.ByKind.{listed-or}
 use Rattle.event.proofs.RoundTrip.{body, call-reads-back}
 use Rattle.steps.specs.State.{Result, State, fresh}
 use Rattle.steps.specs.Step.{afterBy, callBytes, callEvent, callsBy, refuse, step, stepBy}
 use Rattle.steps.specs.declared.Answer.{Answer}
 use Rattle.steps.proofs.Cases.{steps}
-use Rattle.steps.proofs.Chains.{cut-chain, unlisted-chain}
 use Rattle.steps.proofs.Keeps.{GoodState, keeps, unopened-good}
 use Rattle.printout.specs.Run.{Ran, answered, done, run, runOn}
 use Rattle.printout.proofs.Runs.{goes-on}

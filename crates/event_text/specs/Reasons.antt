@@ -6,7 +6,7 @@ use Rattle.printout.specs.Text.{ascii}
 
 -- the numbers are 1 to this one; that each has its text: event_text/Reasons: reasons-counted
 abbrev pub lastReason : ℕ
-lastReason = 16
+lastReason = 17
 
 -- from number 1 on
 abbrev pub reasonTexts : List (List ℕ)
@@ -27,6 +27,7 @@ reasonTexts =
     ∷ ascii "no wake yet"
     ∷ ascii "pointer out of range"
     ∷ ascii "records do not fit"
+    ∷ ascii "report or sheet too large"
     ∷ []
 
 -- of a number that is no reason's nothing

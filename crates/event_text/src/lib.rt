@@ -19,7 +19,7 @@ ghost use Rattle.event_text.specs.Reasons.{reasonText};
 ghost use Rattle.event_text.specs.Show.{StoredTwo, blockText, blockWords, eventLine, eventWords, mostEventLine, mostWords, refusalLine, signedText};
 
 // The last number of a reason for refusing.
-pub const LAST_REASON: u8 = 16;
+pub const LAST_REASON: u8 = 17;
 
 // A word and the byte after it. All functions here return the index after what they stored.
 pub fn word(out: &mut [u8], at: usize, text: &[u8], after: u8) -> usize
@@ -275,6 +275,7 @@ pub fn put_reason(out: &mut [u8], at: usize, refusal: u8) -> usize
         14 => word(out, at, b"no wake yet", LINE_END),
         15 => word(out, at, b"pointer out of range", LINE_END),
         16 => word(out, at, b"records do not fit", LINE_END),
+        17 => word(out, at, b"report or sheet too large", LINE_END),
         _ => word(out, at, b"", LINE_END),
     }
 }

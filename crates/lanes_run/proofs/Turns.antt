@@ -133,10 +133,10 @@ module _ {sheet : List ℕ} {x₀ : State} {out₀ : List ℕ} {from so-far firs
   on : (e : Event) → ((d : ℕ) → laneFrom e d ≡ h .lane) → readAt sheet at ≡ Reading.Event e (record { at = r .next }) → Put (r .change .answer) mid start out′ (r .end) → (line′ : Line) → Shaped line′
       → callEvent (stateOf l book) e ≡ leaves (r .change .answer) line′ book′ → After line′
   on e named read P line′ shaped called = record {
-      going = goes-on sheet x₀ out₀ from so-far first l book out at len number G e (record { at = r .next }) read (r .change .answer) line′ book′ called shaped
-      out′ (r .end) (answer-line (r .change .answer) (T .put) (P .text)) (omega (arith, P .short, T .put .ends, few-digits 19 number (omega (arith, T .small)))) (T .same-book) (T .same-out) (r .next) refl;
-      counted = lane-counted sheet x₀ waits₀ from first l book waits at number (T .advanced .counted) (good-state G) (G .numbered) e (record { at = r .next }) read (r .change .answer) line′ book′ called (h .lane) named;
-    }
+    going = goes-on sheet x₀ out₀ from so-far first l book out at len number G e (record { at = r .next }) read (r .change .answer) line′ book′ called shaped
+        out′ (r .end) (answer-line (r .change .answer) (T .put) (P .text)) (omega (arith, P .short, T .put .ends, few-digits 19 number (omega (arith, T .small)))) (T .same-book) (T .same-out) (r .next) refl;
+    counted = lane-counted sheet x₀ waits₀ from first l book waits at number (T .advanced .counted) (good-state G) (G .numbered) e (record { at = r .next }) read (r .change .answer) line′ book′ called (h .lane) named;
+  }
 
   -- the same after a refusal, which counts nothing
   abbrev Kept : Type 0

@@ -1,12 +1,11 @@
 -- The counts of waiting in a part of a run: that they begin, that an event is counted, and that those of two parts are those of one.
 use Prim.Native.Nat.{ℕ, suc, _+_, _-_, _≤_}
 use mathlib.Core.Path.{_≡_, refl, sym, ap, _∙_, subst}
-use mathlib.Core.List.{List, [], _∷_}
+use mathlib.Core.List.{List, _∷_}
 use native.Mathlib.Omega.{arith}
 use lib.ListN.{length}
 use Rattle.line.specs.declared.Line.{Line}
 use Rattle.waitlist.specs.NextLane.{nextLane}
-use Rattle.event.specs.Event.{given}
 use Rattle.event.specs.ReadWrite.{readAt}
 use Rattle.event.specs.declared.Cursor.{Cursor}
 use Rattle.event.specs.declared.Event.{Event}

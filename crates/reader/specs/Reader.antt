@@ -1,4 +1,4 @@
--- A reader over lent bytes: `readAt`, and how far it has got then. Tied to `run` by the contract of run::run, which reads by it.
+-- A reader over lent bytes: `readAt`, and how far it has got then. Tied to `run` by the contract of run::run_reported, which reads by it.
 use Prim.Native.Nat.{ℕ}
 use mathlib.Core.List.{List}
 use denote.Ref.{now}

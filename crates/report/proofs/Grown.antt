@@ -1,18 +1,16 @@
 -- The rows of a report after a run: each is the row lent with the run's waits of that lane, or of all; two runs over one report add up, in either order.
-use Prim.Native.Nat.{ℕ, zero, suc, _+_, _<_}
+use Prim.Native.Nat.{ℕ, suc, _<_}
 use mathlib.Core.Path.{_≡_, refl, sym, ap, _∙_}
 use mathlib.Core.Bool.{true, false, cond}
 use mathlib.Core.List.{List, [], _∷_}
-use native.Mathlib.Omega.{arith}
-use native.Mathlib.Nat.{zero-add}
-use lib.ListN.{getD, length}
+use lib.ListN.{length}
 use Rattle.lists.proofs.Tests.{at-test}
 use Rattle.steps.specs.State.{State}
 use Rattle.trace.specs.Trace.{Entry}
 use Rattle.trace.specs.SheetCalls.{sheetEntries}
 use Rattle.report.specs.declared.Report.{Report}
 use Rattle.report.specs.declared.Row.{Row}
-use Rattle.report.specs.Rows.{emptyRow, joined}
+use Rattle.report.specs.Rows.{joined}
 use Rattle.report.specs.Growth.{allWaits, grown, grownFrom, laneWaits}
 use Rattle.report.specs.Lent.{cannotCount, gets17, isSound, reportAfter}
 use Rattle.report.proofs.Lanes.{from-length, lane-row-grows, rowFor}

@@ -1,7 +1,6 @@
 -- Wish 1: a row of the report of waiting, two rows joined, the report of no waiting, and a row's mean.
 use Prim.Native.Nat.{ℕ, _+_, _/_, _%_, max}
 use mathlib.Core.Bool.{cond}
-use mathlib.Core.List.{List}
 use lib.ListN.{replicate}
 use lib.Dec.{eqb}
 use Rattle.limits.specs.Limits.{mostLanes}

@@ -1,16 +1,14 @@
 -- Each answer that tells a lane to wait is counted once, as a wait that ended or as one that did not; a wait that no call of the run tells is left out.
 use Prim.Native.Nat.{ℕ, _+_, _<_}
-use mathlib.Core.Path.{_≡_, refl, ap, _∙_}
+use mathlib.Core.Path.{_≡_, refl, _∙_}
 use mathlib.Core.Bool.{Bool, true, false, cond}
 use mathlib.Core.List.{List, [], _∷_}
 use native.Mathlib.Omega.{arith}
-use lib.Dec.{eqb}
 use lib.ListN.{length}
-use borrow.Author.Tests.{eqb-true}
 use Rattle.lists.specs.Lists.{bit, countPass, somePass}
-use Rattle.lists.proofs.Tests.{and-left, and-right, by-test, neither-left, neither-right}
+use Rattle.lists.proofs.Tests.{by-test, neither-left, neither-right}
 use Rattle.steps.specs.State.{State}
-use Rattle.trace.specs.Trace.{Entry, answersWaits, isAccepted, tellsToWait, wakes, wantsBy}
+use Rattle.trace.specs.Trace.{Entry, tellsToWait, wakes}
 use Rattle.trace.specs.SheetCalls.{sheetEntries}
 use Rattle.report.specs.declared.Report.{Report}
 use Rattle.report.specs.declared.Row.{Row}

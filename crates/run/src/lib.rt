@@ -61,13 +61,7 @@ fn end_run(
 
 // The run on a sound line, part by part: calls of lanes and refused calls on the whole line, then one call on the whole line. Where a part ends no lane calls, and an event
 // that was read is of a listed kind, so that the second return is never reached. That a refused call does not end a part is for speed, and not promised.
-fn run_sound(
-    line: Line,
-    book: &mut [u8],
-    sheet: &[u8],
-    out: &mut [u8],
-    report: Report,
-) -> Reported
+fn run_sound(line: Line, book: &mut [u8], sheet: &[u8], out: &mut [u8], report: Report) -> Reported
     requires { ⌜ (sound line (length (now book)) ≡ true) × (mostText (length (now sheet)) ≤ length (now out)) × (cannotCount report (now sheet) ≡ false) ⌝ }
     ensures { λ r. ⌜ RunSound (stateOf line (now (book .entry))) report (now (sheet .entry)) (now (out .entry)) r (now (book .exit)) (now (out .exit)) ⌝ }
 {

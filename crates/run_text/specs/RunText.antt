@@ -1,4 +1,4 @@
--- The text of a run: the most bytes that it takes, and its last lines. Tied to `run` and `printed` by run/Going: ends, and run/Last: unsound-run.
+-- The text of a run: the most bytes that it takes, and its last lines. Tied to `run` and `printed` by run/Going: ends, and run/Last: refused-run.
 use Prim.Native.Nat.{ℕ, _+_, _*_}
 use mathlib.Core.List.{List, _++_}
 use Rattle.line.specs.declared.Line.{Line}

@@ -38,7 +38,7 @@ mod results;
 pub mod summary;
 
 // One count for each number of a reason, and before them that of the accepted calls.
-pub const COUNTS: usize = 17;
+pub const COUNTS: usize = 18;
 
 // Where a trace stands: the line, the next byte of the sheet, the next event's number, and how many were accepted and refused, by number.
 pub struct Tracing {

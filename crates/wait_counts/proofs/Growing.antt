@@ -4,15 +4,14 @@ use mathlib.Core.Path.{_≡_, refl, _∙_}
 use mathlib.Core.List.{List}
 use native.Mathlib.Omega.{arith}
 use native.Mathlib.Numerals.{add-one}
-use lib.ListN.{getD, length, length-set, set}
+use lib.ListN.{getD, length, length-set}
 use lib.Seq.{getD-set-other}
 use lib.Dec.{eqb}
 use Rattle.limits.specs.Limits.{mostLanes, mostSheet}
 use Rattle.lists.proofs.Tests.{by-test}
 use Rattle.report.specs.Lent.{fullNumber}
-use Rattle.report.specs.Rows.{emptyRow, joined}
+use Rattle.report.specs.Rows.{emptyRow}
 use Rattle.report.specs.declared.Report.{Report}
-use Rattle.report.specs.declared.Row.{Row}
 use Rattle.wait_counts.specs.Counts.{Below, Growable, Sane, closedRow, grownTo, markIn, releasesIn, withWaits}
 
 -- a lane's waits in one run are few

@@ -1,7 +1,7 @@
 -- From the counts at a run's end to the report: what is counted of each lane, joined to the report, is what the run's calls tell.
 use Prim.Native.Nat.{ℕ, zero, suc, _+_, _*_, _≤_, _<_}
 use mathlib.Core.Path.{_≡_, refl, sym, ap, _∙_}
-use mathlib.Core.Bool.{Bool, true, false, cond, _&&_}
+use mathlib.Core.Bool.{true, cond}
 use mathlib.Core.List.{List, [], _∷_}
 use native.Mathlib.Omega.{arith}
 use native.Mathlib.Decide.{ℕ-discrete}
@@ -11,8 +11,7 @@ use lib.Seq.{ext-getD, getD-set-other, getD-set-same}
 use Rattle.limits.specs.Limits.{mostLanes}
 use Rattle.lists.proofs.Tests.{clash}
 use Rattle.waitlist.specs.NextLane.{nextLane}
-use Rattle.waitlist.specs.declared.Wakes.{Wakes}
-use Rattle.steps.specs.State.{Result, State}
+use Rattle.steps.specs.State.{State}
 use Rattle.steps.specs.Step.{stepBy}
 use Rattle.steps.proofs.Cases.{steps}
 use Rattle.steps.proofs.Keeps.{GoodState, keeps}
@@ -23,10 +22,10 @@ use Rattle.report.specs.Rows.{emptyRow, joined}
 use Rattle.report.specs.Growth.{allWaits, grown, grownFrom, laneWaits, tellsAny, waitRow, waitsTold}
 use Rattle.report.proofs.Lanes.{call-adds, from-length, lane-row-grows, lanes-more, lanesWaits, no-lanes-wait}
 use Rattle.report.proofs.Rows.{empty-joined, joined-assoc, joined-empty}
-use Rattle.wait_counts.specs.Counts.{Sane, Sign, closedRow, grownTo, neither, noCounts, releases, releasesAt, signOf, waits, withWaits}
+use Rattle.wait_counts.specs.Counts.{Sign, closedRow, grownTo, neither, noCounts, releases, releasesAt, signOf, waits}
 use Rattle.wait_counts.specs.Counting.{Counting, laneTotal}
 use Rattle.wait_counts.proofs.Growing.{grown-length, later-row}
-use Rattle.wait_counts.proofs.Marks.{Next, next-call}
+use Rattle.wait_counts.proofs.Marks.{next-call}
 use Rattle.wait_counts.proofs.Totals.{Proper, Shows}
 
 -- ---- at the start nothing is counted

@@ -1,15 +1,15 @@
 -- The numbers of a lane after one answer is counted, lane by lane.
 use Prim.Native.Nat.{ℕ, _+_, _-_, _*_, _≤_, _<_, max}
-use mathlib.Core.Path.{_≡_, refl, sym, ap, _∙_}
+use mathlib.Core.Path.{_≡_, _∙_}
 use mathlib.Core.Logic.{_≢_}
-use mathlib.Core.Bool.{Bool, true, false, cond}
+use mathlib.Core.Bool.{false, cond}
 use mathlib.Core.List.{List}
 use native.Mathlib.Omega.{arith}
 use native.Mathlib.Decide.{ℕ-discrete}
 use lib.ListN.{getD, length, length-set, set}
 use lib.Seq.{getD-set-other, getD-set-same}
 use lib.Dec.{eqb}
-use borrow.Author.Tests.{eq-eqb, ne-eqb}
+use borrow.Author.Tests.{ne-eqb}
 use Rattle.limits.specs.Limits.{mostLanes}
 use Rattle.lists.proofs.Tests.{by-test}
 use Rattle.wait_counts.specs.Counts.{Sane, ended, endedAfter, largestIn, markIn, oneRelease, releasesAt, releasesIn, sumIn, timesIn, told}

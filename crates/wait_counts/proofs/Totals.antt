@@ -1,8 +1,8 @@
 -- What is counted of a lane so far, what its wait under way comes to, and what it is told later, are together the same before and after a call.
-use Prim.Native.Nat.{ℕ, suc, _+_, _-_, _*_, _≤_, _<_, max}
+use Prim.Native.Nat.{ℕ, _+_, _-_, _*_, _<_, max}
 use mathlib.Core.Path.{_≡_, refl, sym, ap, _∙_}
 use mathlib.Core.Logic.{_≢_}
-use mathlib.Core.Bool.{Bool, true, false, cond, _&&_, _||_}
+use mathlib.Core.Bool.{Bool, true, false, _&&_}
 use mathlib.Core.List.{List, [], _∷_}
 use native.Mathlib.Omega.{arith}
 use native.Mathlib.Nat.{zero-add}
@@ -11,18 +11,17 @@ use lib.ListN.{getD}
 use lib.Dec.{eqb}
 use borrow.Author.Tests.{eq-eqb, ne-eqb}
 use Rattle.limits.specs.Limits.{mostLanes}
-use Rattle.lists.specs.Lists.{bit, somePass}
+use Rattle.lists.specs.Lists.{somePass}
 use Rattle.lists.proofs.Tests.{by-test}
 use Rattle.waitlist.specs.NextLane.{wakesValues}
 use Rattle.waitlist.specs.declared.Wakes.{Wakes}
 use Rattle.trace.specs.Trace.{Entry, isRelease, tellsToWait, wakes, wokenBy}
-use Rattle.changes.specs.Change.{entryOf}
 use Rattle.changes.proofs.Steps.{entry-is}
-use Rattle.report.specs.Growth.{endedRow, laneWaits, releasesToWake, unendedRow, waitRow, waitsTold}
-use Rattle.report.specs.Rows.{emptyRow, joined, row}
+use Rattle.report.specs.Growth.{endedRow, laneWaits, releasesToWake, waitRow, waitsTold}
+use Rattle.report.specs.Rows.{emptyRow, joined}
 use Rattle.report.specs.declared.Row.{Row}
 use Rattle.report.proofs.Rows.{empty-joined, row-eq}
-use Rattle.wait_counts.specs.Counts.{Sane, Sign, closedRow, countedBy, ended, endedAfter, markIn, neither, oneRelease, releases, releasesAt, releasesIn, told, waits}
+use Rattle.wait_counts.specs.Counts.{Sane, Sign, closedRow, countedBy, endedAfter, markIn, neither, oneRelease, releases, releasesAt, releasesIn, told, waits}
 use Rattle.wait_counts.specs.Counting.{endedIn, laneTotal, underWay}
 use Rattle.wait_counts.proofs.Slots.{apart, ended-largest, ended-mark, ended-releases, ended-slot, ended-sum, ended-times, release-count, release-sane, release-slot, told-mark, told-slot}
 

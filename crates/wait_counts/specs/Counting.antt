@@ -1,5 +1,5 @@
--- What the counts of a run say of its calls: the waits counted so far with those that the rest of the run comes to are the waits of the whole run.
-use Prim.Native.Nat.{ℕ, _+_, _-_, _≤_, _<_}
+-- What the counts of a run say of its calls: the waits counted so far with those that the rest of the run comes to are those of the whole run. Tied to the calls by wait_counts/Marks: goes.
+use Prim.Native.Nat.{ℕ, _+_, _-_, _<_}
 use mathlib.Core.Path.{_≡_}
 use mathlib.Core.Bool.{false, cond}
 use mathlib.Core.List.{List}

@@ -1,4 +1,4 @@
--- What a run counts of waiting: a list of numbers, four for each lane and then the releases. Tied to `laneWaits` by wait_counts/Totals.
+-- What a run counts of waiting: a list of numbers, four for each lane and then the releases. Tied to `laneWaits` and `grown` by wait_counts/Totals: total-step, and wait_counts/Reports: report-is.
 use Prim.Native.Nat.{ℕ, zero, suc, _+_, _-_, _*_, _≤_, _<_, max}
 use mathlib.Core.Bool.{cond}
 use mathlib.Core.List.{List}

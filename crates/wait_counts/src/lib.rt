@@ -5,7 +5,6 @@ ghost use mathlib.Core.Path.{_≡_};
 ghost use lib.Dec.{eqb};
 ghost use Rattle.limits.specs.Limits.{mostLanes, mostSheet};
 ghost use Rattle.report.specs.Rows.{joined};
-ghost use Rattle.changes.specs.Change.{entryOf};
 ghost use Rattle.wait_counts.specs.Counts.{Countable, Growable, Joinable, Sane, closedRow, counted, ended, grownTo, released, releasesIn, told};
 use changes::entry_of;
 use limits::MOST_LANES;
@@ -87,10 +86,10 @@ pub fn count_answer(counts: &mut [u64], lane: usize, answer: Answer)
 }
 
 // 1 for a lane that is marked, 0 for another.
-fn one_marked(mark: u64) -> u64
-    ensures { λ r. ⌜ (r ≡ cond (eqb mark 0) 0 1) × (r ≤ 1) ⌝ }
+fn one_marked(told: u64) -> u64
+    ensures { λ r. ⌜ (r ≡ cond (eqb told 0) 0 1) × (r ≤ 1) ⌝ }
 {
-    if mark == 0 {
+    if told == 0 {
         return 0;
     }
     1

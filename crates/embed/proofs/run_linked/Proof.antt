@@ -1,14 +1,6 @@
 -- `run_linked` meets its contract: it is the run with a report from an unopened line.
-use Prim.Native.Nat.{ℕ}
-use mathlib.Core.List.{List}
-use mathlib.Core.Path.{_≡_, ap, subst, _∙_}
-use Rattle.line.specs.declared.Line.{Line}
+use mathlib.Core.Path.{ap, _∙_}
 use Rattle.line.specs.Line.{unopened}
-use Rattle.report.specs.declared.Report.{Report}
-use Rattle.steps.specs.Meets.{stateOf}
-use Rattle.steps.specs.State.{fresh}
-use Rattle.run.specs.Runs.{RunMeets}
-use Rattle.run.specs.declared.Reported.{Reported}
 use Rattle.linebook_text.proofs.Fresh.{from-unopened}
 use Rattle.embed.specs.Embedded.{lengthPrinted}
 use borrow.Author.Needs.{needs}

@@ -93,7 +93,6 @@ loop-holds c =
 run-lanes-requires : tie.Need-run-lanes-requires Inv-loop μ-loop
 run-lanes-requires c κs = let l = c .before .before .before in begins (l .loop .inv) (start l .pre .1) (bounded (start l))
 
-
 grow-requires : tie.Need-grow-requires Inv-loop μ-loop
 grow-requires c κs =
     let w = part-of (c .before .before) in

@@ -1,10 +1,8 @@
 -- `end_wait` meets its contract: what it reads, it reads before it stores.
-use mathlib.Core.Path.{_∙_, ap}
 use native.Mathlib.Omega.{arith}
 use borrow.Author.Needs.{needs}
 use borrow.Author.Tests.{ne-eqb}
 use lib.ListN.{length-set}
-use Rattle.wait_counts.specs.Counts.{Sane, releasesIn, sumIn, markIn, sinceTold}
 use Rattle.wait_counts.proofs.end_wait.Statement.{statement}
 use Rattle.wait_counts.proofs.end_wait.Tie as tie
 
