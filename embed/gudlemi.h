@@ -3,7 +3,8 @@
  * A sheet is a row of bytes, event after event: one byte of kind, 01 to 0C, then the body of that kind. A book is the
  * lent bytes in which the lanes' records are written. Both are described in document 01. Each function is proved to
  * answer and to leave exactly what its definitions say: in crates/embed/specs/Embedded.antt, and of a run in
- * crates/run/specs/Runs.antt (printedBy, leftByRun, textIn), from the state `fresh` of crates/steps/specs/State.antt.
+ * crates/run/specs/Runs.antt (printedBy, leftByRun, textIn, reportBy), from the state `fresh` of
+ * crates/steps/specs/State.antt. What a report of waiting counts is in crates/report/specs: Rows, Growth and Lent.
  *
  * Make the library with `rt staticlib embed`, which writes target/staticlib/libembed.a, and link it:
  *
@@ -17,21 +18,27 @@
  *     No length is above PTRDIFF_MAX.
  *   - No pointer is null, also where the length is 0. With length 0 any pointer that is not null will do, as the
  *     address of a variable: nothing is read or written through it. (malloc(0) may answer null.)
- *   - `sheet`, `book` and `text` share no byte with each other.
- *   - While a call runs, no other thread writes to its `sheet` and none reads or writes its `book` and `text`.
+ *   - `report` names a whole struct gudlemi_report that may be read and written, is not null, and is aligned to
+ *     8 bytes as every variable of that type is. Each of its numbers has been set: memory as malloc gives it will not do.
+ *   - `sheet`, `book`, `text` and `report` share no byte with each other.
+ *   - While a call runs, no other thread writes to its `sheet` and none reads or writes its `book`, `text` and `report`.
  *
  * The functions keep no state from call to call, allocate nothing, and end on every sheet. Several threads can call
- * them at once, each with its own book and text; one sheet can be read by several.
+ * them at once, each with its own book, text and report; one sheet can be read by several.
  *
  * Stack, in bytes, at most; measured on the stored sheets by tests/embed, and bounded by no proof:
  *
- *     gudlemi_run            10000
+ *     gudlemi_run            22000
+ *     gudlemi_run_reported   24000
  *     gudlemi_event_length     300
  *     gudlemi_event_refusal    300
+ *     gudlemi_mean              16
+ *     gudlemi_remainder         16
  *     gudlemi_text_bound        16
  *     gudlemi_version           16
  *
- * Where the loader looks for memcpy and memset only when they are first called, that call took 3,136 bytes more.
+ * Where the loader looks for memcpy and memset only when they are first called, a first gudlemi_run took 2,528 bytes
+ * more. Of a run's stack most is for the report, which is handed on by value inside the library.
  */
 #ifndef GUDLEMI_H
 #define GUDLEMI_H
@@ -50,11 +57,37 @@ extern "C" {
 /* The version that this header is of: 10,000 for its first part, 100 for the second, 1 for the third. */
 #define GUDLEMI_VERSION 10200
 
-/* gudlemi_run: `text` may be too short for the printed lines. The greatest number, which is no length. */
+/* The most lanes that a line can have, and the rows of a report that are for one lane each. */
+#define GUDLEMI_LANES 64
+
+/* The most bytes of a sheet that is run; a longer one gets 17. */
+#define GUDLEMI_LONGEST_SHEET 65536
+
+/* A run: `text` may be too short for the printed lines. The greatest number, which is no length. */
 #define GUDLEMI_TOO_SHORT ((size_t)-1)
 
 /* gudlemi_text_bound: no length is enough. The same number. */
 #define GUDLEMI_NO_BOUND ((size_t)-1)
+
+/* A row of the report of waiting. A lane waits from the answer `waits` to the accepted release (04 or 09) whose answer
+ * says that it wakes that lane; how long that was is counted in accepted releases from then on, by any lane, the one
+ * that wakes it included. */
+struct gudlemi_row {
+    uint64_t times;   /* the waits that ended */
+    uint64_t sum;     /* the releases that they took, added up */
+    uint64_t largest; /* the most releases that one of them took */
+    uint64_t unended; /* the waits that had not ended when their sheet's run did; they are in none of the other three */
+};
+
+/* The report of waiting: 2,080 bytes with no gap between them, each number in the machine's own order of bytes.
+ *
+ * A report of all zeros is the one with no waiting, as memset or `= {0}` makes it. Lend one to the runs of any number
+ * of sheets, one after the other: it then has the waits of all of them. The rows of `lane` are those of lanes 0 to 63,
+ * whichever of them a sheet's line has. `all` is counted beside them and grows from its own values. */
+struct gudlemi_report {
+    struct gudlemi_row lane[GUDLEMI_LANES];
+    struct gudlemi_row all;
+};
 
 /* Runs a whole sheet, from a line that is not yet open, over the lent book, and prints a line of text for each event.
  *
@@ -75,14 +108,40 @@ extern "C" {
  * before. Bytes past the capacity are never altered, and a sheet with no accepted opening alters none.
  *
  * Bytes that are no event print `refused 2` (a kind that is not listed) or `refused 3` (a body cut short) and end the
- * run; `end` follows. Every other refusal lets it go on. The sheet may be of any length: that it has 65,536 bytes at
- * most is a rule of the program linebook. */
+ * run; `end` follows. Every other refusal of an event lets it go on.
+ *
+ * A long sheet: above GUDLEMI_LONGEST_SHEET bytes it is not run. It prints `0 refused 17` and `end 0 0`, and leaves the
+ * book as it was. (Up to version 1.1.0 a sheet of any length was run.) */
 size_t gudlemi_run(const uint8_t *sheet, size_t sheet_length,
                    uint8_t *book, size_t book_length,
                    uint8_t *text, size_t text_length);
 
-/* The shortest text_length that gudlemi_run takes for a sheet of this length: 56 for each byte, and 112. It is 112 for
- * an empty sheet, and GUDLEMI_NO_BOUND where that number has more than 64 bits, which no sheet in memory reaches. */
+/* Runs a whole sheet as gudlemi_run does, with the same answer, text and book, over a lent report that grows in place.
+ *
+ * What grows: a wait told and ended in this run adds 1 to `times` and its releases to `sum`, and becomes `largest`
+ * where it took more; a wait told in this run and not ended when it ends adds 1 to `unended`. Each is added to the row
+ * of its lane and to `all`. No number ever shrinks, and none wraps. The report is as lent where no wait is told, as on
+ * an empty sheet; a run ended by 2 or 3 has counted what came before.
+ *
+ * A full report: where any number of any row is 2^63 or more before the run, also of a lane that the sheet's line does
+ * not have, the sheet is not run. As for a long sheet it prints `0 refused 17` and `end 0 0`, on an empty sheet too, and
+ * leaves the book as it was. In both cases the report is as lent, and so it is where the answer is GUDLEMI_TOO_SHORT,
+ * which is looked for first. */
+size_t gudlemi_run_reported(const uint8_t *sheet, size_t sheet_length,
+                            uint8_t *book, size_t book_length,
+                            uint8_t *text, size_t text_length,
+                            struct gudlemi_report *report);
+
+/* The mean of a row, from its times and its sum: sum / times, rounded down. It is 0 where times is 0. Both may be any
+ * numbers. */
+uint64_t gudlemi_mean(uint64_t times, uint64_t sum);
+
+/* What remains of the sum: sum - times * mean, which is below times. It is 0 where times is 0. */
+uint64_t gudlemi_remainder(uint64_t times, uint64_t sum);
+
+/* The shortest text_length that a run takes for a sheet of this length: 56 for each byte, and 112. It is 112 for an
+ * empty sheet, and GUDLEMI_NO_BOUND where that number has more than 64 bits, which no sheet in memory reaches. The rule
+ * is the same for a sheet that is too long to be run. */
 size_t gudlemi_text_bound(size_t sheet_length);
 
 /* The length in bytes of the event at byte index `at` of a sheet, its kind byte counted: 2 to 40. The next event is at
