@@ -19,9 +19,10 @@
  *   - No pointer is null, also where the length is 0. With length 0 any pointer that is not null will do, as the
  *     address of a variable: nothing is read or written through it. (malloc(0) may answer null.)
  *   - `report` names a whole struct gudlemi_report that may be read and written, is not null, and is aligned to
- *     8 bytes as every variable of that type is. Each of its numbers has been set: memory as malloc gives it will not do.
+ *     8 bytes as every variable of that type is. Each of its numbers has been set: memory fresh from malloc won't do.
  *   - `sheet`, `book`, `text` and `report` share no byte with each other.
- *   - While a call runs, no other thread writes to its `sheet` and none reads or writes its `book`, `text` and `report`.
+ *   - While a call runs, no other thread writes to its `sheet`, and none reads or writes its `book`, `text` and
+ *     `report`.
  *
  * The functions keep no state from call to call, allocate nothing, and end on every sheet. Several threads can call
  * them at once, each with its own book, text and report; one sheet can be read by several.
@@ -124,9 +125,9 @@ size_t gudlemi_run(const uint8_t *sheet, size_t sheet_length,
  * an empty sheet; a run ended by 2 or 3 has counted what came before.
  *
  * A full report: where any number of any row is 2^63 or more before the run, also of a lane that the sheet's line does
- * not have, the sheet is not run. As for a long sheet it prints `0 refused 17` and `end 0 0`, on an empty sheet too, and
- * leaves the book as it was. In both cases the report is as lent, and so it is where the answer is GUDLEMI_TOO_SHORT,
- * which is looked for first. */
+ * not have, the sheet is not run. As for a long sheet it prints `0 refused 17` and `end 0 0`, on an empty sheet too,
+ * and leaves the book as it was. In both cases the report is as lent, and so it is where the answer is
+ * GUDLEMI_TOO_SHORT, which is looked for first. */
 size_t gudlemi_run_reported(const uint8_t *sheet, size_t sheet_length,
                             uint8_t *book, size_t book_length,
                             uint8_t *text, size_t text_length,

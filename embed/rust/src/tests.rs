@@ -1,4 +1,7 @@
-//! Tests of the wrapper: document 01's example, the edges of each buffer, and events found in a sheet.
+//! Tests of the wrapper: document 01's example, the edges of each buffer, and events found in a sheet; in `report` those
+//! of the report of waiting.
+
+mod report;
 
 use super::{event_at, run, run_to_string, text_bound, EventAt};
 
