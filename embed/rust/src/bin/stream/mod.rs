@@ -1,0 +1,31 @@
+//! A stream, for the programs here: a row of byte strings, each preceded by its length as 4 bytes big-endian.
+
+use std::io::{self, Read, Write};
+use std::process::ExitCode;
+
+/// The next item of a stream, or none at its end.
+pub fn read_item(source: &mut impl Read) -> io::Result<Option<Vec<u8>>> {
+    let mut length = [0; 4];
+    if source.read(&mut length[..1])? == 0 {
+        return Ok(None);
+    }
+    source.read_exact(&mut length[1..])?;
+    let mut item = vec![0; u32::from_be_bytes(length) as usize];
+    source.read_exact(&mut item)?;
+    Ok(Some(item))
+}
+
+pub fn write_item(sink: &mut impl Write, item: &[u8]) -> io::Result<()> {
+    let length = u32::try_from(item.len()).map_err(io::Error::other)?;
+    sink.write_all(&length.to_be_bytes())?;
+    sink.write_all(item)
+}
+
+/// The exit of a program: 1 with a line on standard error where something went wrong.
+pub fn exit_by(program: &str, done: io::Result<()>) -> ExitCode {
+    let Err(error) = done else {
+        return ExitCode::SUCCESS;
+    };
+    eprintln!("{program}: {error}");
+    ExitCode::from(1)
+}
