@@ -1,15 +1,16 @@
 //! `embed_rust SHEET`: prints where each event of a sheet file starts and how long it is, then runs the sheet.
+//! `embed_rust report SHEET...`: runs the sheets over one report of waiting, and prints it as a table.
 //!
 //! Build, after `rt staticlib embed`, from the repository's top:
 //!     cargo build --release --manifest-path examples/embed_rust/Cargo.toml
 
-use gudlemi::{event_at, run_to_string, EventAt};
+use gudlemi::{event_at, run_reported, run_to_string, text_bound};
+use gudlemi::{EventAt, Report, Row, LONGEST_SHEET};
 use std::fs::File;
 use std::io::{self, Read, Write};
 use std::process::ExitCode;
 
 const BOOK_LENGTH: usize = 65_536;
-const LONGEST_SHEET: usize = 65_536;
 
 /// The bytes of the file; one byte past the longest sheet is enough to see that it is too long.
 fn read_sheet(name: &str) -> io::Result<Vec<u8>> {
@@ -55,17 +56,57 @@ fn print_sheet(name: &str) -> io::Result<()> {
     out.flush()
 }
 
-fn main() -> ExitCode {
-    let words: Vec<String> = std::env::args().skip(1).collect();
-    let [name] = words.as_slice() else {
-        eprintln!("use: embed_rust SHEET");
-        return ExitCode::from(2);
-    };
-    match print_sheet(name) {
-        Ok(()) => ExitCode::SUCCESS,
-        Err(error) => {
-            eprintln!("embed_rust: {name}: {error}");
-            ExitCode::from(1)
+/// Runs the sheet over the report, which grows; the text is not looked at.
+fn count_sheet(name: &str, report: &mut Report) -> io::Result<()> {
+    let sheet = read_sheet(name)?;
+    let mut book = vec![0; BOOK_LENGTH];
+    let mut text = vec![0; text_bound(sheet.len()).unwrap_or(0)];
+    run_reported(&sheet, &mut book, &mut text, report)
+        .ok_or(io::Error::other("no text buffer is long enough"))?;
+    Ok(())
+}
+
+/// A line of the table: the row, with its mean and what remains.
+fn print_row(out: &mut impl Write, first: &str, row: &Row) -> io::Result<()> {
+    write!(out, "{first:>4} {:>9} {:>9} {:>9}", row.times, row.sum, row.largest)?;
+    writeln!(out, " {:>9} {:>9} {:>9}", row.mean(), row.remainder(), row.unended)
+}
+
+/// The report as a table: a line for each lane with any wait, then one for all.
+fn print_report(report: &Report) -> io::Result<()> {
+    let mut out = io::BufWriter::new(io::stdout().lock());
+    writeln!(out, "lane     times       sum   largest      mean remainder   unended")?;
+    for (lane, row) in report.lane.iter().enumerate() {
+        if row.times > 0 || row.unended > 0 {
+            print_row(&mut out, &lane.to_string(), row)?;
         }
     }
+    print_row(&mut out, "all", &report.all)?;
+    out.flush()
+}
+
+/// Runs the sheets over one report and prints it; an error comes with the name of what it is about.
+fn print_waiting(names: &[String]) -> Result<(), (&str, io::Error)> {
+    let mut report = Report::default();
+    for name in names {
+        count_sheet(name, &mut report).map_err(|error| (name.as_str(), error))?;
+    }
+    print_report(&report).map_err(|error| ("standard output", error))
+}
+
+fn main() -> ExitCode {
+    let words: Vec<String> = std::env::args().skip(1).collect();
+    let done = match words.as_slice() {
+        [name] => print_sheet(name).map_err(|error| (name.as_str(), error)),
+        [word, names @ ..] if word == "report" => print_waiting(names),
+        _ => {
+            eprintln!("use: embed_rust SHEET, or embed_rust report SHEET...");
+            return ExitCode::from(2);
+        }
+    };
+    let Err((name, error)) = done else {
+        return ExitCode::SUCCESS;
+    };
+    eprintln!("embed_rust: {name}: {error}");
+    ExitCode::from(1)
 }
