@@ -39,7 +39,7 @@
  *     gudlemi_version           16
  *
  * Where the loader looks for memcpy and memset only when they are first called, a first gudlemi_run took 2,528 bytes
- * more. Of a run's stack most is for the report, which is handed on by value inside the library.
+ * more. Much of a run's stack is for the report, which is handed on by value inside the library.
  */
 #ifndef GUDLEMI_H
 #define GUDLEMI_H
