@@ -2,11 +2,15 @@
 //! test of soundness and no allocation. It leans on what a sound line has: the value of a woken or
 //! holding lane is the pointer, so no lane keeps one. Flags and busy lanes are the bits of two
 //! words and gathered lanes are counted, so that only a completed ordered call walks over the lanes.
+//! A waiting lane keeps the number of releases before its wait, and its row of the lent report grows
+//! at the wake.
 
+use crate::proved::Report;
 use crate::text::{least_room, Text};
 use crate::tiling::Tiling;
+use crate::waiting;
 
-/// The longest sheet that is run, as for `linebook`. Line numbers then have at most five digits.
+/// The longest sheet that is run; a longer one gets 17. Line numbers have at most five digits then.
 pub const MOST_SHEET: usize = 65_536;
 const MOST_POINTER: u32 = 65_536;
 const MOST_CAPACITY: u32 = 65_536;
@@ -21,15 +25,25 @@ enum Purpose {
 #[derive(Clone, Copy)]
 enum Phase {
     Idle,
-    Waiting(Purpose),
+    /// `told`: the releases before the answer that told the lane to wait.
+    Waiting {
+        purpose: Purpose,
+        told: u32,
+    },
     Woken(Purpose),
     Holding(Purpose),
-    Writing { left: u16, next: u32 },
-    Reading { left: u16, next: u32 },
+    Writing {
+        left: u16,
+        next: u32,
+    },
+    Reading {
+        left: u16,
+        next: u32,
+    },
     Gathered(u16),
 }
 
-/// The line, the lent book and the text. A bit of `flags` and `busy` is the lane of its number.
+/// The line, the lent book, the text and the lent report. A bit of `flags` and `busy` is the lane of its number.
 struct Line<'a, const PLAIN: bool> {
     lanes: u8,
     capacity: u32,
@@ -39,10 +53,13 @@ struct Line<'a, const PLAIN: bool> {
     busy: u64,
     gathered: u32,
     gathered_total: u32,
+    /// The accepted releases of the run.
+    releases: u32,
     phase: [Phase; 64],
     tiling: Tiling,
     book: &'a mut [u8],
     text: Text<'a, PLAIN>,
+    report: &'a mut Report,
 }
 
 /// A refusal's number.
@@ -107,7 +124,7 @@ impl<const PLAIN: bool> Line<'_, PLAIN> {
             self.phase[i] = Phase::Holding(purpose);
             self.text.one(b"holds ", self.pointer);
         } else {
-            self.phase[i] = Phase::Waiting(purpose);
+            self.phase[i] = Phase::Waiting { purpose, told: self.releases };
             self.text.word(b"waits\n");
         }
         Ok(())
@@ -122,14 +139,16 @@ impl<const PLAIN: bool> Line<'_, PLAIN> {
                 self.text.one(b"holds ", self.pointer);
                 Ok(())
             }
-            Phase::Waiting(_) => Err(Refusal(14)),
+            Phase::Waiting { .. } => Err(Refusal(14)),
             _ => Err(Refusal(13)),
         }
     }
 
-    /// Lowers a flag and wakes the next lane: the first flagged one above, or else the first.
+    /// Lowers a flag and wakes the next lane: the first flagged one above, or else the first. The
+    /// release that wakes a lane counts for its wait.
     #[inline(always)]
     fn release(&mut self, i: usize) -> Option<usize> {
+        self.releases += 1;
         self.flags &= !(1 << i);
         let above = self.flags & (!0 << i);
         let among = if above != 0 { above } else { self.flags };
@@ -137,8 +156,9 @@ impl<const PLAIN: bool> Line<'_, PLAIN> {
             return None;
         }
         let next = among.trailing_zeros() as usize;
-        if let Phase::Waiting(purpose) = self.phase[next] {
+        if let Phase::Waiting { purpose, told } = self.phase[next] {
             self.phase[next] = Phase::Woken(purpose);
+            waiting::end_wait(self.report, next, self.releases - told);
         }
         Some(next)
     }
@@ -362,6 +382,18 @@ impl<const PLAIN: bool> Line<'_, PLAIN> {
             _ => Err(Refusal(2)),
         }
     }
+
+    /// Counts the waits that the run leaves. A waiting lane has its flag up.
+    fn leave_waits(&mut self) {
+        let mut flagged = self.flags;
+        while flagged != 0 {
+            let lane = flagged.trailing_zeros() as usize;
+            flagged &= flagged - 1;
+            if let Phase::Waiting { .. } = self.phase[lane] {
+                waiting::leave_wait(self.report, lane);
+            }
+        }
+    }
 }
 
 /// The fields of a body at an index.
@@ -380,7 +412,11 @@ fn eight(body: &[u8], at: usize) -> &[u8; 8] {
     body[at..at + 8].try_into().expect("eight bytes")
 }
 
-fn unopened<'a, const PLAIN: bool>(book: &'a mut [u8], text: &'a mut [u8]) -> Line<'a, PLAIN> {
+fn unopened<'a, const PLAIN: bool>(
+    book: &'a mut [u8],
+    text: &'a mut [u8],
+    report: &'a mut Report,
+) -> Line<'a, PLAIN> {
     Line {
         lanes: 0,
         capacity: 0,
@@ -390,19 +426,36 @@ fn unopened<'a, const PLAIN: bool>(book: &'a mut [u8], text: &'a mut [u8]) -> Li
         busy: 0,
         gathered: 0,
         gathered_total: 0,
+        releases: 0,
         phase: [Phase::Idle; 64],
         tiling: Tiling::plain(),
         book,
         text: Text::new(text),
+        report,
     }
 }
 
+/// The text of a run that is refused before its first event.
+fn refuse_run<const PLAIN: bool>(text: &mut [u8], number: usize) -> usize {
+    let mut text = Text::<PLAIN>::new(text);
+    text.refused(number);
+    text.end(0, 0)
+}
+
 #[inline(always)]
-fn run_by<const PLAIN: bool>(sheet: &[u8], book: &mut [u8], text: &mut [u8]) -> usize {
-    if sheet.len() > MOST_SHEET || text.len() < least_room(sheet.len()) {
+fn run_by<const PLAIN: bool>(
+    sheet: &[u8],
+    book: &mut [u8],
+    text: &mut [u8],
+    report: &mut Report,
+) -> usize {
+    if text.len() < least_room(sheet.len()) {
         return usize::MAX;
     }
-    let mut line = unopened::<PLAIN>(book, text);
+    if sheet.len() > MOST_SHEET || waiting::is_full(report) {
+        return refuse_run::<PLAIN>(text, 17);
+    }
+    let mut line = unopened::<PLAIN>(book, text, report);
     let mut rest = sheet;
     while let [kind, after @ ..] = rest {
         match line.event(*kind, after) {
@@ -413,17 +466,23 @@ fn run_by<const PLAIN: bool>(sheet: &[u8], book: &mut [u8], text: &mut [u8]) -> 
             }
         }
     }
+    line.leave_waits();
     line.text.end(line.size, line.pointer)
 }
 
-/// Runs a sheet from an unopened line: the printed lines at the start of `text`, and their length.
-/// The greatest number for a sheet over 65,536 bytes or a `text` that may be too short.
+/// Runs a sheet from an unopened line: the printed lines at the start of `text`, and their length;
+/// `report` grows. The greatest number for a `text` that may be too short.
 /// Up to 15 bytes of `text` past the printed lines may be altered.
-pub fn run(sheet: &[u8], book: &mut [u8], text: &mut [u8]) -> usize {
-    run_by::<false>(sheet, book, text)
+pub fn run(sheet: &[u8], book: &mut [u8], text: &mut [u8], report: &mut Report) -> usize {
+    run_by::<false>(sheet, book, text, report)
 }
 
 /// The same with decimal digits divided out one by one.
-pub fn run_with_plain_digits(sheet: &[u8], book: &mut [u8], text: &mut [u8]) -> usize {
-    run_by::<true>(sheet, book, text)
+pub fn run_with_plain_digits(
+    sheet: &[u8],
+    book: &mut [u8],
+    text: &mut [u8],
+    report: &mut Report,
+) -> usize {
+    run_by::<true>(sheet, book, text, report)
 }

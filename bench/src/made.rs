@@ -1,4 +1,7 @@
-//! Made-up sheets from a seed: random events that take no account of the state of the line.
+//! Made-up sheets from a seed: random events that take no account of the state of the line. Books
+//! and reports to lend with them.
+
+use crate::proved::{Report, Row};
 
 /// Marsaglia's xorshift of 64 bits with a final product.
 pub struct Random(u64);
@@ -194,4 +197,42 @@ pub fn altered(random: &mut Random, sheet: &[u8]) -> Vec<u8> {
 /// A book of bytes that an opening has to clear.
 pub fn book(random: &mut Random, length: usize) -> Vec<u8> {
     (0..length).map(|_| random.next() as u8).collect()
+}
+
+/// A number of a lent report: small, large, or the last that can still grow.
+fn reported(random: &mut Random) -> u64 {
+    match random.below(8) {
+        0 => (1 << 63) - 1,
+        1 => random.next() << 15,
+        _ => random.below(100),
+    }
+}
+
+fn row(random: &mut Random) -> Row {
+    Row {
+        times: reported(random),
+        sum: reported(random),
+        largest: reported(random),
+        unended: reported(random),
+    }
+}
+
+/// A report whose rows have nothing to do with each other; a run can grow it.
+pub fn report(random: &mut Random) -> Report {
+    Report { lane: std::array::from_fn(|_| row(random)), all: row(random) }
+}
+
+/// The same with one number of one row at 2^63 or above.
+pub fn full_report(random: &mut Random) -> Report {
+    let mut report = report(random);
+    let number = 1 << 63 | if random.one_in(2) { 0 } else { random.next() };
+    let at = random.below(65) as usize;
+    let row = if at < 64 { &mut report.lane[at] } else { &mut report.all };
+    match random.below(4) {
+        0 => row.times = number,
+        1 => row.sum = number,
+        2 => row.largest = number,
+        _ => row.unended = number,
+    }
+    report
 }

@@ -9,6 +9,7 @@ mod sheets;
 mod text;
 mod tiling;
 mod timing;
+mod waiting;
 
 use std::process::ExitCode;
 use timing::{Buffers, Measured};
@@ -80,8 +81,11 @@ fn print_load() {
 fn time_all() {
     let mut buffers = Buffers::new();
     println!("Times are nanoseconds an event, the best sample of each program. All run in one");
-    println!("process, by turns, over the same book and text. Neither buffer is cleared between");
-    println!("runs: a sheet's opening zeroes the book, within the time; the text is overwritten.");
+    println!("process, by turns, over the same book, text and report. None is cleared between");
+    println!(
+        "runs: a sheet's opening zeroes the book, within the time; the text is overwritten, and"
+    );
+    println!("the report grows.");
     println!("Plain digits: the in-place program with its decimal digits divided out one by one.");
     println!("A ratio is the proved program's time over that of the column before it.");
     print_load();
@@ -103,8 +107,11 @@ fn agree() -> bool {
         }
         Ok(checked) => {
             let (sheets, events) = (checked.sheets, checked.events);
-            println!("{sheets} sheets with {events} events: same text, same book;");
-            println!("every answer and every refusal from 2 to 16 came up.\n");
+            println!("{sheets} sheets with {events} events: same text, same book, same report;");
+            println!(
+                "every answer and every refusal from 2 to 17 came up, and the reports grew by"
+            );
+            println!("{} waits that ended and {} that did not.\n", checked.ended, checked.unended);
             true
         }
     }

@@ -49,10 +49,10 @@ impl Word {
 }
 
 /// `refused` and each number.
-static REFUSED: [Word; 17] = {
-    let mut words = [Word::with_number(b"refused ", 0); 17];
+static REFUSED: [Word; 18] = {
+    let mut words = [Word::with_number(b"refused ", 0); 18];
     let mut number = 0;
-    while number < 17 {
+    while number < 18 {
         words[number] = Word::with_number(b"refused ", number as u8);
         number += 1;
     }

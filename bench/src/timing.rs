@@ -1,10 +1,11 @@
 //! Timing of the programs on one sheet: in one process, by turns, over the same buffers; the best.
 
+use crate::proved::Report;
 use crate::{inplace, proved};
 use std::hint::black_box;
 use std::time::{Duration, Instant};
 
-type Run = fn(&[u8], &mut [u8], &mut [u8]) -> usize;
+type Run = fn(&[u8], &mut [u8], &mut [u8], &mut Report) -> usize;
 
 pub struct Program {
     pub name: &'static str,
@@ -24,11 +25,13 @@ const LEAST: Duration = Duration::from_millis(2_500);
 /// A sample repeats a short sheet until it has about this many events.
 const SAMPLE_EVENTS: usize = 4_000;
 
-/// The lent buffers, the same for all programs. Neither is cleared between runs: the sheet's
-/// opening zeroes the book, which is part of what is timed, and the text is overwritten.
+/// The lent buffers and the lent report, the same for all programs. None is cleared between runs:
+/// the sheet's opening zeroes the book, which is part of what is timed, the text is overwritten,
+/// and the report grows.
 pub struct Buffers {
     book: Vec<u8>,
     text: Vec<u8>,
+    report: Report,
 }
 
 /// What was measured: the best time of one run of each program, in nanoseconds.
@@ -42,13 +45,13 @@ pub struct Measured {
 impl Buffers {
     pub fn new() -> Buffers {
         let room = proved::text_bound(inplace::MOST_SHEET);
-        Buffers { book: vec![0; 65_536], text: vec![0; room] }
+        Buffers { book: vec![0; 65_536], text: vec![0; room], report: Report::empty() }
     }
 
     /// So many runs in a row.
     pub fn repeat(&mut self, run: Run, sheet: &[u8], times: usize) {
         for _ in 0..times {
-            black_box(run(black_box(sheet), &mut self.book, &mut self.text));
+            black_box(run(black_box(sheet), &mut self.book, &mut self.text, &mut self.report));
         }
     }
 
@@ -61,7 +64,7 @@ impl Buffers {
 
     /// The lines of a sheet's text without the last, and the text's length.
     fn events(&mut self, sheet: &[u8]) -> (usize, usize) {
-        let length = proved::run(sheet, &mut self.book, &mut self.text);
+        let length = proved::run(sheet, &mut self.book, &mut self.text, &mut self.report);
         let lines = self.text[..length].iter().filter(|&&byte| byte == b'\n').count();
         (lines - 1, length)
     }
