@@ -176,7 +176,8 @@ fn on_uncountable(checked: &mut Checked, random: &mut Random) -> Result<(), Stri
     let book = made::book(random, 65_536);
     let report = made::report(random);
     for length in [65_535, 65_536, 65_537, 70_000] {
-        let sheet = sheets::shared_writes(length, 64);
+        let mut sheet = sheets::shared_writes(length, 64);
+        sheet.resize(length, 0x03); // to the byte; an event may be cut short
         checked
             .compare(&sheet, &book, &report)
             .map_err(|difference| format!("sheet of {length} bytes: {difference}"))?;
