@@ -150,7 +150,7 @@ fn on_workloads(checked: &mut Checked, random: &mut Random) -> Result<(), String
     for (name, sheet) in sheets::workloads(inplace::MOST_SHEET) {
         let in_sheet = |difference| format!("{name}: {difference}");
         let book = made::book(random, 65_536);
-        checked.compare(&sheet, &book, &Report::empty()).map_err(in_sheet)?;
+        checked.compare(&sheet, &book, &Report::default()).map_err(in_sheet)?;
         for _ in 0..ALTERED {
             let sheet = made::altered(random, &sheet);
             checked.compare(&sheet, &book, &made::report(random)).map_err(in_sheet)?;
@@ -196,7 +196,7 @@ pub fn check() -> Result<Checked, String> {
     let answers = BTreeMap::new();
     let mut checked = Checked { sheets: 0, events: 0, ended: 0, unended: 0, answers };
     let mut random = Random::new(1);
-    checked.compare(&[], &[], &Report::empty())?;
+    checked.compare(&[], &[], &Report::default())?;
     on_workloads(&mut checked, &mut random)?;
     on_made_up(&mut checked, &mut random)?;
     on_uncountable(&mut checked, &mut random)?;

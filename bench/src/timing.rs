@@ -45,7 +45,7 @@ pub struct Measured {
 impl Buffers {
     pub fn new() -> Buffers {
         let room = proved::text_bound(inplace::MOST_SHEET);
-        Buffers { book: vec![0; 65_536], text: vec![0; room], report: Report::empty() }
+        Buffers { book: vec![0; 65_536], text: vec![0; room], report: Report::default() }
     }
 
     /// So many runs in a row.
