@@ -71,8 +71,8 @@ extern "C" {
 #define GUDLEMI_NO_BOUND ((size_t)-1)
 
 /* A row of the report of waiting. A lane waits from the answer `waits` to the accepted release (04 or 09) whose answer
- * says that it wakes that lane; how long that was is counted in accepted releases from then on, by any lane, the one
- * that wakes it included. */
+ * says that it wakes that lane. How long that was is the number of accepted releases, by any lane, after that answer up
+ * to the one that wakes it, that one included. */
 struct gudlemi_row {
     uint64_t times;   /* the waits that ended */
     uint64_t sum;     /* the releases that they took, added up */

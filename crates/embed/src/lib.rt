@@ -44,9 +44,8 @@ fn run_linked(sheet: &[u8], book: &mut [u8], text: &mut [u8], report: Report) ->
     }
 }
 
-// Runs a whole sheet from an unopened line over a lent book; the printed lines stand at the start of `text`. The answer is their length,
-// or the greatest number where `text` may be too short, with nothing altered. It has a report of
-// its own, which is dropped; so 17 comes only for a sheet that is too long.
+// Runs a whole sheet from an unopened line over a lent book, the printed lines at the start of `text`; the answer is their length, or the greatest number where
+// `text` may be too short, with nothing altered. Its own report is dropped, so that 17 comes only for a sheet that is too long.
 #[no_mangle]
 pub extern "C" fn gudlemi_run(sheet: &[u8], book: &mut [u8], text: &mut [u8]) -> usize
     ensures { λ r. ⌜ LinkedRun (fresh (now (book .entry))) (now (sheet .entry)) (now (text .entry)) r (now (book .exit)) (now (text .exit)) ⌝ }

@@ -190,8 +190,8 @@ fn start_lanes(lanes: [Lane; MOST_LANES], n: u8, pointer: u32) -> Started
     Started { lane, counts }
 }
 
-// The calls of lanes, and the refused ones on the whole line, as far as there are such; `waits` counts the waiting. What they change of the line stays in locals, and the view's records in a
-// table, which is made here: the view stays as it is.
+// The calls of lanes, and the refused ones on the whole line, as far as there are such; `waits` counts the waiting. What they change of the line stays in locals,
+// and the view's records in a table, which is made here: the view stays as it is.
 pub fn run_lanes(
     from: Standing,
     book: &mut [u8],

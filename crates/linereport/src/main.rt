@@ -86,7 +86,7 @@ fn run_sheet(sheet: &[u8], report: Report) -> Report {
     run_in(sheet, &mut text, report)
 }
 
-// Runs the first bytes of a buffer as a sheet, and says where they are none as a whole. Bytes that are too many are not run.
+// Runs the first bytes of a buffer as a sheet. Too many are told and not run; notation is told and run, as in linebook.
 fn run_first(name: &[u8], space: &[u8], count: usize, report: Report) -> Report
     requires { ⌜ count ≤ length (now space) ⌝ }
 {

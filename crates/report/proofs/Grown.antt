@@ -39,6 +39,18 @@ module _ (report : Report) (a b : List Entry) where
   pub all-rows-add-up : grown (grown report a) b .all ≡ joined (report .all) (joined (allWaits a) (allWaits b))
   all-rows-add-up = joined-assoc (report .all) (allWaits a) (allWaits b)
 
+-- the same of the runs of two sheets, from any two lines
+module _ (x y : State) (report : Report) (first second : List ℕ) (sx : isSound x ≡ true) (fx : gets17 x report first ≡ false) (sy : isSound y ≡ true) (fy : gets17 y (reportAfter x report first) second ≡ false) where
+  runs-grow : reportAfter y (reportAfter x report first) second ≡ grown (grown report (sheetEntries x first)) (sheetEntries y second)
+  runs-grow = run-grows y (reportAfter x report first) second sy fy ∙ ap (λ (r : Report). grown r (sheetEntries y second)) (run-grows x report first sx fx)
+
+  pub lane-rows-of-runs-add-up : (i : ℕ) → i < length (report .lane)
+      → rowFor (reportAfter y (reportAfter x report first) second) i ≡ joined (rowFor report i) (joined (laneWaits i (sheetEntries x first)) (laneWaits i (sheetEntries y second)))
+  lane-rows-of-runs-add-up i h = ap (λ (r : Report). rowFor r i) runs-grow ∙ lane-rows-add-up report (sheetEntries x first) (sheetEntries y second) i h
+
+  pub all-rows-of-runs-add-up : reportAfter y (reportAfter x report first) second .all ≡ joined (report .all) (joined (allWaits (sheetEntries x first)) (allWaits (sheetEntries y second)))
+  all-rows-of-runs-add-up = ap (λ (r : Report). r .all) runs-grow ∙ all-rows-add-up report (sheetEntries x first) (sheetEntries y second)
+
 -- two additions to a row change places
 added-in-turn : (r a b : Row) → joined (joined r a) b ≡ joined (joined r b) a
 added-in-turn r a b = joined-assoc r a b ∙ ap (joined r) (joined-comm a b) ∙ sym (joined-assoc r b a)
@@ -48,5 +60,6 @@ unfolding grownFrom
 from-in-turn [] first a b = refl
 from-in-turn (r ∷ rows) first a b = λ j. added-in-turn r (laneWaits first a) (laneWaits first b) j ∷ from-in-turn rows (suc first) a b j
 
+-- of runs: where neither gets 17, which may depend on the order
 pub either-order : (report : Report) (a b : List Entry) → grown (grown report a) b ≡ grown (grown report b) a
 either-order report a b = λ j. record { lane = from-in-turn (report .lane) 0 a b j; all = added-in-turn (report .all) (allWaits a) (allWaits b) j }

@@ -18,7 +18,7 @@ releasesToWake i (e ∷ later) = bit (isRelease e) + cond (wakes i e) 0 (release
 abbrev pub endedRow : ℕ → Row
 endedRow n = row 1 n n 0
 
--- "Waits not ended when a sheet's run ends are counted apart and enter neither the times nor a sum"
+-- "Waits not ended when a sheet's run ends are counted apart and enter neither the times nor a sum": so times are the waits that ended
 abbrev pub unendedRow : Row
 unendedRow = row 0 0 0 1
 

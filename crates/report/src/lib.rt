@@ -9,7 +9,7 @@ ghost use Rattle.report.specs.Rows.{emptyReport, emptyRow, meanOf, remai
 use limits::MOST_LANES;
 use limits::MOST_SHEET;
 
-// Times told to wait, the sum and the largest of the releases that these waits took, and the waits that had not ended.
+// Of the waits that ended how many, and the sum and the largest of their releases; and how many had not ended.
 #[repr(C)]
 pub struct Row {
     pub times: u64,

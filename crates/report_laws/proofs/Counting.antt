@@ -2,7 +2,7 @@
 use Prim.Native.Nat.{ℕ, _+_, _<_}
 use mathlib.Core.Path.{_≡_, refl, _∙_}
 use mathlib.Core.Bool.{Bool, true, false, cond}
-use mathlib.Core.List.{List, [], _∷_}
+use mathlib.Core.List.{List, [], _∷_, _++_}
 use native.Mathlib.Omega.{arith}
 use lib.ListN.{length}
 use Rattle.lists.specs.Lists.{bit, countPass, somePass}
@@ -15,7 +15,7 @@ use Rattle.report.specs.declared.Row.{Row}
 use Rattle.report.specs.Rows.{emptyRow, joined}
 use Rattle.report.specs.Growth.{tellsAny, waitRow, waitsTold}
 use Rattle.report.specs.Lent.{gets17, isSound, reportAfter}
-use Rattle.report.proofs.Rows.{joined-empty}
+use Rattle.report.proofs.Rows.{empty-joined, joined-empty}
 use Rattle.report.proofs.Lanes.{lane-row-grows, rowFor}
 use Rattle.report.proofs.Grown.{run-grows}
 
@@ -45,6 +45,13 @@ unfolding waitsTold
 none-told-none-counted tells [] f = refl
 none-told-none-counted tells (e ∷ later) f =
     rw (neither-left (tells e) (somePass tells later) f, none-told-none-counted tells later (neither-right (tells e) (somePass tells later) f))
+
+-- what comes before the first wait that is told adds nothing, whatever it wakes
+pub untold-before-adds-nothing : (tells : Entry → Bool) (before later : List Entry) → somePass tells before ≡ false → waitsTold tells (before ++ later) ≡ waitsTold tells later
+unfolding waitsTold
+untold-before-adds-nothing tells [] later f = refl
+untold-before-adds-nothing tells (e ∷ before) later f =
+    rw (neither-left (tells e) (somePass tells before) f, untold-before-adds-nothing tells before later (neither-right (tells e) (somePass tells before) f)) (empty-joined (waitsTold tells later))
 
 -- ---- of the run of a sheet
 module _ (x : State) (report : Report) (sheet : List ℕ) (s : isSound x ≡ true) (f : gets17 x report sheet ≡ false) where

@@ -1,4 +1,4 @@
--- Wish 1: the report of waiting as a table, to the byte: a header, a line for each lane that has any wait, and a line for all lanes.
+-- The report of waiting as a table, to the byte: a header, a line for each lane that has any wait, and a line for all lanes. Not in the papers: the contract of report_text::print_table.
 use Prim.Native.Nat.{ℕ, suc, _-_}
 use mathlib.Core.Bool.{Bool, cond, _||_}
 use mathlib.Core.List.{List, [], _∷_, _++_, map}

@@ -163,7 +163,7 @@ doesNotFit =
     (cond (is 0x07 e) (not (hasFit x (place (field 1 e)) 1))
     (is 0x0A e && not (hasFit x (x .line .pointer) (gatheredTotal (entered (x .line) (laneOf e) (field 1 e)))))))
 
--- ---- the checking order: the sixteen, the lowest number first
+-- ---- the checking order: the sixteen of a call, the lowest number first
 abbrev pub reasons : List Reason
 reasons =
     notSound

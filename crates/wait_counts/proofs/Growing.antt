@@ -12,10 +12,10 @@ use Rattle.lists.proofs.Tests.{by-test}
 use Rattle.report.specs.Lent.{fullNumber}
 use Rattle.report.specs.Rows.{emptyRow}
 use Rattle.report.specs.declared.Report.{Report}
-use Rattle.wait_counts.specs.Counts.{Below, Growable, Sane, closedRow, grownTo, markIn, releasesIn, withWaits}
+use Rattle.wait_counts.specs.Counts.{Below, Growable, Consistent, closedRow, grownTo, markIn, releasesIn, withWaits}
 
 -- a lane's waits in one run are few
-pub closed-below : (c : List ℕ) (i : ℕ) → Sane c → releasesIn c ≤ mostSheet → i < mostLanes → Below (mostSheet + 1) (closedRow c i)
+pub closed-below : (c : List ℕ) (i : ℕ) → Consistent c → releasesIn c ≤ mostSheet → i < mostLanes → Below (mostSheet + 1) (closedRow c i)
 closed-below c i S few h =
     let t = S .times i h in
     let l = S .largest i h in
@@ -44,7 +44,7 @@ module _ (r : Report) (c : List ℕ) where
   grown-all G zero h = let b = G .all in record { times = omega (arith, b .times); sum = omega (arith, b .sum); largest = omega (arith, b .largest); unended = omega (arith, b .unended) }
   grown-all G (suc k) h =
       let a = grown-all G k (omega arith) in
-      let b = closed-below c k (G .sane) (G .few) (omega arith) in
+      let b = closed-below c k (G .consistent) (G .few) (omega arith) in
       record {
         times = omega (arith, a .times, b .times);
         sum = omega (arith, a .sum, b .sum);

@@ -33,10 +33,10 @@ use Rattle.changes.specs.Change.{entryOf}
 use Rattle.changes.proofs.Steps.{entry-is}
 use Rattle.trace.specs.Trace.{CallBytes, Entry, callIn, entry, isRelease, saidTo, tellsToWait, wokenBy}
 use Rattle.trace.proofs.Seen.{by-entry, shownEntry}
-use Rattle.wait_counts.specs.Counts.{Sane, Sign, counted, countedBy, ended, markIn, neither, oneRelease, releases, releasesAt, releasesIn, signOf, waits}
+use Rattle.wait_counts.specs.Counts.{Consistent, Sign, counted, countedBy, ended, markIn, neither, oneRelease, releases, releasesAt, releasesIn, signOf, waits}
 use Rattle.wait_counts.specs.Counting.{Counting, Marked, SameTotals}
 use Rattle.wait_counts.proofs.Totals.{Proper, Shows, total-step}
-use Rattle.wait_counts.proofs.Slots.{ended-mark, ended-releases, ended-sane, ended-slot, release-count, release-sane, release-slot, told-sane, told-slot}
+use Rattle.wait_counts.proofs.Slots.{ended-mark, ended-releases, ended-consistent, ended-slot, release-count, release-consistent, release-slot, told-consistent, told-slot}
 
 -- what a call gives, with its entry, from counts c on
 pub record Next (c : List ℕ) (e : Entry) (r : Result) : Type 0 where
@@ -67,7 +67,7 @@ ready-waits (Phase.BusyReading n k) e = refl
 ready-waits (Phase.Gathered n) e = refl
 
 -- ---- a call
-module _ (x : State) (G : GoodState x) (c : List ℕ) (S : Sane c) (M : Marked x c) where
+module _ (x : State) (G : GoodState x) (c : List ℕ) (S : Consistent c) (M : Marked x c) where
   -- a lane that does not wait gets another phase
   moved : (k : ℕ) (o y : Phase) → phaseAt (x .line) k ≡ o → isWaiting o ≡ false
       → (j : ℕ) → j < mostLanes → isWaiting ((getD (placed (x .line) k y) j idleLane) .phase) ≡ false → markIn c j ≡ 0
@@ -79,12 +79,12 @@ module _ (x : State) (G : GoodState x) (c : List ℕ) (S : Sane c) (M : Marked x
   -- marks after a release that wakes lane w
   woken-own : (w : ℕ) → w < mostLanes → markIn (ended (oneRelease c) w) w ≡ 0
   woken-own w b =
-      by-test (eqb (markIn (oneRelease c) w) 0) (λ t. rw t (eqb-true (markIn (oneRelease c) w) 0 t)) (λ t. rw t (ended-mark (oneRelease c) (release-sane c S) w _ b))
+      by-test (eqb (markIn (oneRelease c) w) 0) (λ t. rw t (eqb-true (markIn (oneRelease c) w) 0 t)) (λ t. rw t (ended-mark (oneRelease c) (release-consistent c S) w _ b))
 
   woken-other : (w j : ℕ) → w < mostLanes → j < mostLanes → j ≢ w → markIn (ended (oneRelease c) w) j ≡ markIn c j
   woken-other w j b d n =
       by-test (eqb (markIn (oneRelease c) w) 0) (λ t. rw t (release-slot c S (4 * j) (omega arith)))
-      (λ t. rw t (ended-slot (oneRelease c) (release-sane c S) w _ b (4 * j) (λ k f q. n (omega arith)) ∙ release-slot c S (4 * j) (omega arith)))
+      (λ t. rw t (ended-slot (oneRelease c) (release-consistent c S) w _ b (4 * j) (λ k f q. n (omega arith)) ∙ release-slot c S (4 * j) (omega arith)))
 
   -- a release by lane k
   leaves-marked : (e : Entry) (a : Result) (k : ℕ) (o y : Phase) (q : Place) → Shows e (releases (nextOf nextLane (lowered (x .line) k y q) k)) → signOf (a .answer) ≡ releases (nextOf nextLane (lowered (x .line) k y q) k)
@@ -168,20 +168,20 @@ pub record Goes (c : List ℕ) (e : Entry) (r : Result) : Type 0 where
   -- by the entry in the arrays that stands for the lane
   pub own : counted c (entryOf (e .lane)) (r .answer) ≡ counted c (e .lane) (r .answer)
 
-counted-sane : (c : List ℕ) (i : ℕ) (s : Sign) → Sane c → Proper c i s → Sane (countedBy c i s)
-counted-sane c i waits S P = told-sane c S i (P .0)
-counted-sane c i (releases Wakes.None) S P = release-sane c S
-counted-sane c i (releases (Wakes.Lane w)) S P =
-    rw (← entry-is w P) (ended-sane (oneRelease c) (release-sane c S) w P (rw (release-slot c S (4 * w) (omega arith), release-count c S) (S .mark w P)))
-counted-sane c i neither S P = S
+counted-consistent : (c : List ℕ) (i : ℕ) (s : Sign) → Consistent c → Proper c i s → Consistent (countedBy c i s)
+counted-consistent c i waits S P = told-consistent c S i (P .0)
+counted-consistent c i (releases Wakes.None) S P = release-consistent c S
+counted-consistent c i (releases (Wakes.Lane w)) S P =
+    rw (← entry-is w P) (ended-consistent (oneRelease c) (release-consistent c S) w P (rw (release-slot c S (4 * w) (omega arith), release-count c S) (S .mark w P)))
+counted-consistent c i neither S P = S
 
-counted-releases : (c : List ℕ) (i : ℕ) (s : Sign) → Sane c → Proper c i s → releasesIn (countedBy c i s) ≤ releasesIn c + 1
+counted-releases : (c : List ℕ) (i : ℕ) (s : Sign) → Consistent c → Proper c i s → releasesIn (countedBy c i s) ≤ releasesIn c + 1
 counted-releases c i waits S P = rw (told-slot c S i (P .0) releasesAt (λ q. absurd (omega arith))) (omega arith)
 counted-releases c i (releases Wakes.None) S P = rw (release-count c S) (omega arith)
 counted-releases c i (releases (Wakes.Lane w)) S P =
     rw (← entry-is w P)
     (by-test (eqb (markIn (oneRelease c) w) 0) (λ t. rw (t, release-count c S) (omega arith))
-    (λ t. rw (t, ended-releases (oneRelease c) (release-sane c S) w _ P, release-count c S) (omega arith)))
+    (λ t. rw (t, ended-releases (oneRelease c) (release-consistent c S) w _ P, release-count c S) (omega arith)))
 counted-releases c i neither S P = omega arith
 
 counted-own : (c : List ℕ) (i : ℕ) (s : Sign) → Proper c i s → countedBy c (entryOf i) s ≡ countedBy c i s
@@ -191,12 +191,12 @@ counted-own c i neither P = refl
 
 pub goes : (x : State) → GoodState x → (c : List ℕ) → Counting x c → (g : CallBytes) → Goes c (entry g (saidTo nextLane x g)) (stepBy nextLane x (callIn g))
 goes x G c C g =
-    let N = next-call x G c (C .sane) (C .marked) g in
+    let N = next-call x G c (C .consistent) (C .marked) g in
     let e = entry g (saidTo nextLane x g) in
     let s = signOf (stepBy nextLane x (callIn g) .answer) in
     record {
-      counting = record { sane = counted-sane c (e .lane) s (C .sane) (N .proper); marked = N .marked };
-      totals = λ later i h. sym (total-step c (C .sane) i h e later s (N .shows) (N .proper));
-      releases = counted-releases c (e .lane) s (C .sane) (N .proper);
+      counting = record { consistent = counted-consistent c (e .lane) s (C .consistent) (N .proper); marked = N .marked };
+      totals = λ later i h. sym (total-step c (C .consistent) i h e later s (N .shows) (N .proper));
+      releases = counted-releases c (e .lane) s (C .consistent) (N .proper);
       own = counted-own c (e .lane) s (N .proper);
     }

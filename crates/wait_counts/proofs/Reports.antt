@@ -37,7 +37,7 @@ zeros (suc n) (suc k) = zeros n k
 pub none-counted : (x : State) → Counting x noCounts
 none-counted x =
     record {
-      sane = record {
+      consistent = record {
         long = length-replicate {A = ℕ} (releasesAt + 1) 0;
         mark = λ i h. rw (zeros (releasesAt + 1) (4 * i)) (omega arith);
         times = λ i h. rw (zeros (releasesAt + 1) (4 * i + 1)) (omega arith);
@@ -60,7 +60,7 @@ told-proper e neither W P t = clash (sym t ∙ W .tells (e .lane))
 
 told-inside : (x : State) → GoodState x → (g : CallBytes) → tellsAny (entry g (saidTo nextLane x g)) ≡ true → entry g (saidTo nextLane x g) .lane < mostLanes
 told-inside x G g t =
-    let N = next-call x G noCounts (none-counted x .sane) (none-counted x .marked) g in
+    let N = next-call x G noCounts (none-counted x .consistent) (none-counted x .marked) g in
     told-proper (entry g (saidTo nextLane x g)) (signOf (stepBy nextLane x (callIn g) .answer)) (N .shows) (N .proper) t
 
 pub all-waits-are-lanes-joined : (gs : List CallBytes) (x : State) → GoodState x → allWaits (entries nextLane x gs) ≡ lanesWaits 0 mostLanes (entries nextLane x gs)

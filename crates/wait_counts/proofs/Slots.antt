@@ -12,18 +12,18 @@ use lib.Dec.{eqb}
 use borrow.Author.Tests.{ne-eqb}
 use Rattle.limits.specs.Limits.{mostLanes}
 use Rattle.lists.proofs.Tests.{by-test}
-use Rattle.wait_counts.specs.Counts.{Sane, ended, endedAfter, largestIn, markIn, oneRelease, releasesAt, releasesIn, sumIn, timesIn, told}
+use Rattle.wait_counts.specs.Counts.{Consistent, ended, endedAfter, largestIn, markIn, oneRelease, releasesAt, releasesIn, sumIn, timesIn, told}
 
 -- ---- one release more
-module _ (c : List ℕ) (S : Sane c) where
+module _ (c : List ℕ) (S : Consistent c) where
   pub release-count : releasesIn (oneRelease c) ≡ releasesIn c + 1
   release-count = getD-set-same c releasesAt (releasesIn c + 1) 0 (omega (arith, S .long))
 
   pub release-slot : (k : ℕ) → k < releasesAt → getD (oneRelease c) k 0 ≡ getD c k 0
   release-slot k h = getD-set-other c releasesAt k (releasesIn c + 1) 0 (λ q. absurd (omega arith))
 
-  pub release-sane : Sane (oneRelease c)
-  release-sane =
+  pub release-consistent : Consistent (oneRelease c)
+  release-consistent =
       record {
         long = length-set c releasesAt (releasesIn c + 1) ∙ S .long;
         mark = λ i h. rw (release-count, release-slot (4 * i) (omega arith)) (let m = S .mark i h in omega arith);
@@ -37,7 +37,7 @@ module _ (c : List ℕ) (S : Sane c) where
       }
 
 -- ---- a lane is told to wait
-module _ (c : List ℕ) (S : Sane c) (i : ℕ) (h : i < mostLanes) where
+module _ (c : List ℕ) (S : Consistent c) (i : ℕ) (h : i < mostLanes) where
   pub told-mark : markIn (told c i) i ≡ releasesIn c + 1
   told-mark = getD-set-same c (4 * i) (releasesIn c + 1) 0 (omega (arith, S .long))
 
@@ -45,7 +45,7 @@ module _ (c : List ℕ) (S : Sane c) (i : ℕ) (h : i < mostLanes) where
   told-slot k n = getD-set-other c (4 * i) k (releasesIn c + 1) 0 n
 
 -- ---- the wait of a lane ends after n releases
-module _ (c : List ℕ) (S : Sane c) (i n : ℕ) (h : i < mostLanes) where
+module _ (c : List ℕ) (S : Consistent c) (i n : ℕ) (h : i < mostLanes) where
   abbrev c₁ : List ℕ
   c₁ = set c (4 * i) 0
 
@@ -103,9 +103,9 @@ pub apart : (i j k : ℕ) → j ≢ i → k < 4 → (m : ℕ) → m < 4 → 4 * 
 apart i j k n b m d q = n (omega arith)
 
 -- ---- what is so of all counts stays so
-module _ (c : List ℕ) (S : Sane c) (i : ℕ) (h : i < mostLanes) where
-  pub told-sane : Sane (told c i)
-  told-sane =
+module _ (c : List ℕ) (S : Consistent c) (i : ℕ) (h : i < mostLanes) where
+  pub told-consistent : Consistent (told c i)
+  told-consistent =
       record {
         long = length-set c (4 * i) (releasesIn c + 1) ∙ S .long;
         mark = λ j b. rw same (elim (ℕ-discrete j i) [
@@ -130,8 +130,8 @@ module _ (c : List ℕ) (S : Sane c) (i : ℕ) (h : i < mostLanes) where
           rw (e, ne-eqb (releasesIn c + 1) 0 (λ z. absurd (omega arith))) (omega arith)
 
   -- where the wait took a release at least
-  pub ended-sane : markIn c i ≤ releasesIn c → Sane (ended c i)
-  ended-sane past = by-test (eqb (markIn c i) 0) (λ t. rw t S) (λ t. rw t (after t))
+  pub ended-consistent : markIn c i ≤ releasesIn c → Consistent (ended c i)
+  ended-consistent past = by-test (eqb (markIn c i) 0) (λ t. rw t S) (λ t. rw t (after t))
     where
       pend : eqb (markIn c i) 0 ≡ false → sumIn c i + (releasesIn c + 1 - markIn c i) ≤ releasesIn c
       pend t = rw t at (S .sum i h)
@@ -142,7 +142,7 @@ module _ (c : List ℕ) (S : Sane c) (i : ℕ) (h : i < mostLanes) where
       other-mark : (j : ℕ) → j ≢ i → markIn (endedAfter c i (releasesIn c + 1 - markIn c i)) j ≡ markIn c j
       other-mark j m = ended-slot c S i (releasesIn c + 1 - markIn c i) h (4 * j) (λ k b q. m (omega arith))
 
-      after : eqb (markIn c i) 0 ≡ false → Sane (endedAfter c i (releasesIn c + 1 - markIn c i))
+      after : eqb (markIn c i) 0 ≡ false → Consistent (endedAfter c i (releasesIn c + 1 - markIn c i))
       after t =
           let d = releasesIn c + 1 - markIn c i in
           record {

@@ -21,9 +21,9 @@ use Rattle.report.specs.Growth.{endedRow, laneWaits, releasesToWake, waitRow, w
 use Rattle.report.specs.Rows.{emptyRow, joined}
 use Rattle.report.specs.declared.Row.{Row}
 use Rattle.report.proofs.Rows.{empty-joined, row-eq}
-use Rattle.wait_counts.specs.Counts.{Sane, Sign, closedRow, countedBy, endedAfter, markIn, neither, oneRelease, releases, releasesAt, releasesIn, told, waits}
+use Rattle.wait_counts.specs.Counts.{Consistent, Sign, closedRow, countedBy, endedAfter, markIn, neither, oneRelease, releases, releasesAt, releasesIn, told, waits}
 use Rattle.wait_counts.specs.Counting.{endedIn, laneTotal, underWay}
-use Rattle.wait_counts.proofs.Slots.{apart, ended-largest, ended-mark, ended-releases, ended-slot, ended-sum, ended-times, release-count, release-sane, release-slot, told-mark, told-slot}
+use Rattle.wait_counts.proofs.Slots.{apart, ended-largest, ended-mark, ended-releases, ended-slot, ended-sum, ended-times, release-count, release-consistent, release-slot, told-mark, told-slot}
 
 -- ---- what an entry shows of what its answer means
 abbrev pub isWaits : Sign → Bool
@@ -59,7 +59,7 @@ unfolding waitsTold releasesToWake
 total-end c i = by-test (eqb (markIn c i) 0) (λ t. rw t (row-eq (omega arith) (omega arith) (omega arith) (omega arith))) (λ t. rw t (row-eq (omega arith) (omega arith) (omega arith) (omega arith)))
 
 -- ---- one call
-module _ (c : List ℕ) (S : Sane c) (i : ℕ) (h : i < mostLanes) (e : Entry) (later : List Entry) where
+module _ (c : List ℕ) (S : Consistent c) (i : ℕ) (h : i < mostLanes) (e : Entry) (later : List Entry) where
   -- what the entry does not do
   passes : isRelease e ≡ false → wakes i e ≡ false → underWay (markIn c i) (releasesIn c) i (e ∷ later) ≡ underWay (markIn c i) (releasesIn c) i later
   unfolding releasesToWake
@@ -96,7 +96,7 @@ woken-own e i w q n = rw (q, eq-eqb i w n)
 total-is : {a b : Row} {p q : Row} {l m : Row} → a ≡ b → p ≡ q → l ≡ m → joined a (joined p l) ≡ joined b (joined q m)
 total-is x y z = λ j. joined (x j) (joined (y j) (z j))
 
-module _ (c : List ℕ) (S : Sane c) (i : ℕ) (h : i < mostLanes) (e : Entry) (later : List Entry) where
+module _ (c : List ℕ) (S : Consistent c) (i : ℕ) (h : i < mostLanes) (e : Entry) (later : List Entry) where
   -- its lane is told to wait
   tells-total : Shows e waits → Proper c (e .lane) waits → laneTotal c i (e ∷ later) ≡ laneTotal (told c (e .lane)) i later
   tells-total W (b, z) = elim (ℕ-discrete (e .lane) i) [
@@ -141,7 +141,7 @@ module _ (c : List ℕ) (S : Sane c) (i : ℕ) (h : i < mostLanes) (e : Entry) (
       released-same = row-eq (sym (release-slot c S (4 * i + 1) (omega arith))) (sym (release-slot c S (4 * i + 2) (omega arith))) (sym (release-slot c S (4 * i + 3) (omega arith))) refl
 
 -- the wait of another lane ends
-other-total : (c : List ℕ) → Sane c → (i w n : ℕ) → w < mostLanes → i < mostLanes → i ≢ w → (later : List Entry) → laneTotal c i later ≡ laneTotal (endedAfter c w n) i later
+other-total : (c : List ℕ) → Consistent c → (i w n : ℕ) → w < mostLanes → i < mostLanes → i ≢ w → (later : List Entry) → laneTotal c i later ≡ laneTotal (endedAfter c w n) i later
 other-total c S i w n b h m later =
     total-is
     (row-eq (sym (slot 1 (omega arith))) (sym (slot 2 (omega arith))) (sym (slot 3 (omega arith))) refl)
@@ -152,15 +152,15 @@ other-total c S i w n b h m later =
     slot k d = ended-slot c S w n b (4 * i + k) (apart w i k m d)
 
 -- the wait of lane i ends with the release e
-module _ (c : List ℕ) (S : Sane c) (i : ℕ) (h : i < mostLanes) (e : Entry) (later : List Entry) (r : isRelease e ≡ true) (w : wakes i e ≡ true) (u : tellsToWait i e ≡ false) where
+module _ (c : List ℕ) (S : Consistent c) (i : ℕ) (h : i < mostLanes) (e : Entry) (later : List Entry) (r : isRelease e ≡ true) (w : wakes i e ≡ true) (u : tellsToWait i e ≡ false) where
   abbrev c′ : List ℕ
   c′ = oneRelease c
 
   abbrev took : ℕ
   took = releasesIn c′ + 1 - markIn c′ i
 
-  S′ : Sane c′
-  S′ = release-sane c S
+  S′ : Consistent c′
+  S′ = release-consistent c S
 
   mark-same : markIn c′ i ≡ markIn c i
   mark-same = release-slot c S (4 * i) (omega arith)
@@ -202,7 +202,7 @@ module _ (c : List ℕ) (S : Sane c) (i : ℕ) (h : i < mostLanes) (e : Entry) (
       none = rw (ended-mark c′ S′ i took h)
 
 -- ---- a call, by what its answer means
-pub total-step : (c : List ℕ) → Sane c → (i : ℕ) → i < mostLanes → (e : Entry) (later : List Entry) (s : Sign) → Shows e s → Proper c (e .lane) s
+pub total-step : (c : List ℕ) → Consistent c → (i : ℕ) → i < mostLanes → (e : Entry) (later : List Entry) (s : Sign) → Shows e s → Proper c (e .lane) s
     → laneTotal c i (e ∷ later) ≡ laneTotal (countedBy c (e .lane) s) i later
 total-step c S i h e later waits W P = tells-total c S i h e later W P
 total-step c S i h e later neither W P = total-is refl (passes c S i h e later (W .release) (woken-none e i (W .woken))) (untold c S i h e later (W .tells i))
@@ -218,5 +218,5 @@ total-step c S i h e later (releases (Wakes.Lane w)) W P =
       | yes q ↦ rw (← q) (marked-total c S i h e later (W .release) (woken-own e i w (W .woken) q) (W .tells i) (rw q t))
       | no n ↦
           onward-total c S i h e later (W .release) (woken-other e i w (W .woken) n) (W .tells i)
-          ∙ other-total (oneRelease c) (release-sane c S) i w (releasesIn (oneRelease c) + 1 - markIn (oneRelease c) w) P h n later
+          ∙ other-total (oneRelease c) (release-consistent c S) i w (releasesIn (oneRelease c) + 1 - markIn (oneRelease c) w) P h n later
     ])))

@@ -12,7 +12,7 @@ use Rattle.trace.specs.Trace.{Entry, wakes}
 use Rattle.report.specs.Growth.{endedRow, laneWaits, releasesToWake, unendedRow}
 use Rattle.report.specs.Rows.{emptyRow, joined, row}
 use Rattle.report.specs.declared.Row.{Row}
-use Rattle.wait_counts.specs.Counts.{Sane, largestIn, markIn, releasesIn, sumIn, timesIn}
+use Rattle.wait_counts.specs.Counts.{Consistent, largestIn, markIn, releasesIn, sumIn, timesIn}
 
 -- the waits that have ended
 abbrev pub endedIn : List ℕ → ℕ → Row
@@ -31,7 +31,7 @@ Marked x c = (j : ℕ) → j < mostLanes → isWaiting (phaseAt (x .line) j) ≡
 
 -- counts that fit the line as it is
 pub record Counting (x : State) (c : List ℕ) : Type 0 where
-  pub sane : Sane c
+  pub consistent : Consistent c
   pub marked : Marked x c
 
 -- counts c, with `later` still to come, count what counts c₀ do, with `all` still to come

@@ -104,7 +104,7 @@ abbrev pub sinceTold : List ℕ → ℕ → ℕ
 sinceTold c i = cond (eqb (markIn c i) 0) 0 (releasesIn c + 1 - markIn c i)
 
 -- ---- what is so of all counts of a run: of each lane the waits that ended and the one that has not lie apart among the releases
-pub record Sane (c : List ℕ) : Type 0 where
+pub record Consistent (c : List ℕ) : Type 0 where
   pub long : length c ≡ releasesAt + 1
   pub mark : (i : ℕ) → i < mostLanes → markIn c i ≤ releasesIn c + 1
   pub times : (i : ℕ) → i < mostLanes → timesIn c i ≤ sumIn c i
@@ -113,7 +113,7 @@ pub record Sane (c : List ℕ) : Type 0 where
 
 -- and there is room for one release more
 pub record Countable (c : List ℕ) : Type 0 where
-  pub sane : Sane c
+  pub consistent : Consistent c
   pub few : releasesIn c < mostSheet
 
 -- ---- what the end asks, so that no sum wraps
@@ -127,7 +127,7 @@ pub record Below (n : ℕ) (r : Row) : Type 0 where
 -- one lane's waits, of which a run has at most as many as its sheet has bytes
 pub record Joinable (r : Row) (c : List ℕ) (i : ℕ) : Type 0 where
   pub below : Below (fullNumber + mostLanes * mostSheet) r
-  pub sane : Sane c
+  pub consistent : Consistent c
   pub few : releasesIn c ≤ mostSheet
   pub inside : i < mostLanes
 
@@ -135,5 +135,5 @@ pub record Growable (r : Report) (c : List ℕ) : Type 0 where
   pub lane : (i : ℕ) → i < mostLanes → Below fullNumber (getD (r .lane) i emptyRow)
   pub all : Below fullNumber (r .all)
   pub long : length (r .lane) ≡ mostLanes
-  pub sane : Sane c
+  pub consistent : Consistent c
   pub few : releasesIn c ≤ mostSheet

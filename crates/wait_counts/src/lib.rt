@@ -5,7 +5,7 @@ ghost use mathlib.Core.Path.{_≡_};
 ghost use lib.Dec.{eqb};
 ghost use Rattle.limits.specs.Limits.{mostLanes, mostSheet};
 ghost use Rattle.report.specs.Rows.{joined};
-ghost use Rattle.wait_counts.specs.Counts.{Countable, Growable, Joinable, Sane, closedRow, counted, ended, grownTo, released, releasesIn, told};
+ghost use Rattle.wait_counts.specs.Counts.{Countable, Growable, Joinable, Consistent, closedRow, counted, ended, grownTo, released, releasesIn, told};
 use changes::entry_of;
 use limits::MOST_LANES;
 use report::Report;
@@ -13,7 +13,7 @@ use report::Row;
 use steps::Answer;
 use waitlist::Wakes;
 
-// Four numbers for each lane, and one for all lanes.
+// Four numbers for each lane, and then the releases.
 pub const COUNTS: usize = 4 * MOST_LANES + 1;
 
 // Where the number of releases stands.
@@ -39,7 +39,7 @@ fn tell(counts: &mut [u64], lane: usize)
 
 // The wait of a lane ends with the last release, if it is marked.
 fn end_wait(counts: &mut [u64], lane: usize)
-    requires { ⌜ Sane (now counts) × (releasesIn (now counts) ≤ mostSheet) × (lane < mostLanes) ⌝ }
+    requires { ⌜ Consistent (now counts) × (releasesIn (now counts) ≤ mostSheet) × (lane < mostLanes) ⌝ }
     ensures { λ r. ⌜ now (counts .exit) ≡ ended (now (counts .entry)) lane ⌝ }
 {
     let at = 4 * lane;
@@ -86,10 +86,10 @@ pub fn count_answer(counts: &mut [u64], lane: usize, answer: Answer)
 }
 
 // 1 for a lane that is marked, 0 for another.
-fn one_marked(told: u64) -> u64
-    ensures { λ r. ⌜ (r ≡ cond (eqb told 0) 0 1) × (r ≤ 1) ⌝ }
+fn one_marked(mark: u64) -> u64
+    ensures { λ r. ⌜ (r ≡ cond (eqb mark 0) 0 1) × (r ≤ 1) ⌝ }
 {
-    if told == 0 {
+    if mark == 0 {
         return 0;
     }
     1

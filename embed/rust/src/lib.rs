@@ -61,8 +61,9 @@ pub enum EventAt {
     Refused(u8),
 }
 
-/// A row of the report of waiting. A lane waits from the answer `waits` to the accepted release that wakes it; how long
-/// that was is counted in accepted releases, by any lane, the one that wakes it included.
+/// A row of the report of waiting. A lane waits from the answer `waits` to the accepted release that wakes it. How long
+/// that was is the number of accepted releases, by any lane, after that answer up to the one that wakes it, that one
+/// included.
 #[repr(C)]
 #[derive(Clone, Copy, Debug, PartialEq, Eq, Default)]
 pub struct Row {

@@ -164,7 +164,7 @@ count-answer-requires c κs =
     let l = head .before in
     let I = l .loop .inv in
     let inside = headed-inside (head .head-at .ensures .call (e .before .if1 .taken)) in
-    (record { sane = I .0 .counted .counting .sane; few = omega (arith, I .0 .counted .few, I .0 .going .numbered, inside, start l .pre .bounded) }, e .entry-of .ensures .1)
+    (record { consistent = I .0 .counted .counting .consistent; few = omega (arith, I .0 .counted .few, I .0 .going .numbered, inside, start l .pre .bounded) }, e .entry-of .ensures .1)
 
 -- ---- the indices of the stores
 array-write-flag : tie.Need-array-write-flag Inv-loop μ-loop
@@ -213,7 +213,7 @@ same-length-2 : tie.Need-same-length-2 Inv-loop μ-loop
 same-length-2 c = c .before .before .before .before .before .before .before .before .loop .inv .0 .going .out-length
 
 same-length-3 : tie.Need-same-length-3 Inv-loop μ-loop
-same-length-3 c = let l = c .before .before .before .before .before .before .before .before in l .loop .inv .0 .counted .counting .sane .long ∙ sym (start l .pre .counting .sane .long)
+same-length-3 c = let l = c .before .before .before .before .before .before .before .before in l .loop .inv .0 .counted .counting .consistent .long ∙ sym (start l .pre .counting .consistent .long)
 
 returns : tie.Need-returns Inv-loop μ-loop
 returns c =

@@ -1,3 +1,4 @@
+-- `mean` meets its contract.
 use borrow.Author.Needs.{needs}
 use borrow.Author.Tests.{ne-eqb}
 use Rattle.report.proofs.mean.Statement.{statement}

@@ -1,3 +1,4 @@
+-- `remainder` meets its contract.
 use borrow.Author.Needs.{needs}
 use borrow.Author.Tests.{ne-eqb}
 use Rattle.report.proofs.remainder.Statement.{statement}

@@ -23,7 +23,7 @@ join-waits-requires c κs =
     let l = c .before .before in
     let s = l .before .before in
     let P = s .pre in
-    record { below = lane-below (s .args .report) (s .args .counts .now) P (l .loop .grown) (l .loop .i) (l .loop .inv .0) (c .before .loop-test .taken); sane = P .sane; few = P .few; inside = c .before .loop-test .taken }
+    record { below = lane-below (s .args .report) (s .args .counts .now) P (l .loop .grown) (l .loop .i) (l .loop .inv .0) (c .before .loop-test .taken); consistent = P .consistent; few = P .few; inside = c .before .loop-test .taken }
 
 join-waits-requires-2 : tie.Need-join-waits-requires-2 Inv-loop μ-loop
 join-waits-requires-2 c κs =
@@ -31,7 +31,7 @@ join-waits-requires-2 c κs =
     let l = t .before in
     let s = l .before .before in
     let P = s .pre in
-    record { below = all-below (s .args .report) (s .args .counts .now) P (l .loop .grown) (l .loop .i) (l .loop .inv .0) (t .loop-test .taken); sane = P .sane; few = P .few; inside = t .loop-test .taken }
+    record { below = all-below (s .args .report) (s .args .counts .now) P (l .loop .grown) (l .loop .i) (l .loop .inv .0) (t .loop-test .taken); consistent = P .consistent; few = P .few; inside = t .loop-test .taken }
 
 loop-again : tie.Need-loop-again Inv-loop μ-loop
 loop-again c =

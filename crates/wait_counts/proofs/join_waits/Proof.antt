@@ -8,13 +8,13 @@ use Rattle.wait_counts.proofs.join_waits.Tie as tie
 add-times : tie.Need-add-t11
 add-times c =
     let P = c .before .before .before .before .before .pre in
-    let b = closed-below _ _ (P .sane) (P .few) (P .inside) in
+    let b = closed-below _ _ (P .consistent) (P .few) (P .inside) in
     record { fits = omega (arith, P .below .times, b .times) }
 
 add-sum : tie.Need-add-t16
 add-sum c =
     let P = c .before .before .before .before .before .before .before .pre in
-    let b = closed-below _ _ (P .sane) (P .few) (P .inside) in
+    let b = closed-below _ _ (P .consistent) (P .few) (P .inside) in
     record { fits = omega (arith, P .below .sum, b .sum) }
 
 returns : tie.Need-returns

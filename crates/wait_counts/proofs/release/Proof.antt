@@ -5,7 +5,7 @@ use native.Mathlib.Omega.{arith}
 use borrow.Author.Needs.{needs}
 use lib.ListN.{length-set}
 use Rattle.wait_counts.specs.Counts.{ended, oneRelease, releasesAt, releasesIn}
-use Rattle.wait_counts.proofs.Slots.{release-count, release-sane}
+use Rattle.wait_counts.proofs.Slots.{release-count, release-consistent}
 use Rattle.wait_counts.proofs.release.Statement.{statement}
 use Rattle.wait_counts.proofs.release.Tie as tie
 
@@ -13,7 +13,7 @@ end-wait-requires : tie.Need-end-wait-requires
 end-wait-requires c κs =
     let P = c .before .before .before .before .before .before .before .pre in
     let few = P .few in
-    (release-sane _ (P .sane), rw (release-count _ (P .sane)) (omega arith), c .entry-of .ensures .1)
+    (release-consistent _ (P .consistent), rw (release-count _ (P .consistent)) (omega arith), c .entry-of .ensures .1)
 
 same-length : tie.Need-same-length
 same-length c =

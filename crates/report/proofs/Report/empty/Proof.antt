@@ -1,3 +1,4 @@
+-- `Report::empty` meets its contract.
 use borrow.Author.Needs.{needs}
 use Rattle.report.proofs.Report.empty.Statement.{statement}
 use Rattle.report.proofs.Report.empty.Tie as tie
