@@ -1,0 +1,2 @@
+-- Whether a sheet is notation by mistake.
+pub mod Mistake
