@@ -31,6 +31,7 @@ use Rattle.steps.specs.Effects.{allEntered, entered, lowered, nextOf, freed, on
 use Rattle.steps.specs.Step.{afterBy, stepBy}
 use Rattle.steps.proofs.Cases.{Steps, enters, frees, looks, opens, puts, reads, receives, refuses, seeks, take-reads, take-writes, views, wants, writes}
 use Rattle.steps.proofs.Keeps.{GoodState, fresh-idle, holding-value}
+use Rattle.steps.proofs.Lanes.{wake-lanes}
 use Rattle.steps.proofs.Ordered.{busy-by, entered-all, started-by}
 use Rattle.steps.proofs.Stored.{other-phase, placed, same-phase}
 use Rattle.trace.specs.Trace.{CallBytes, Entry, afterAll, callIn, entries, hasValues, isReset, value}
@@ -118,10 +119,6 @@ pub record Moves (x : State) (ns : List OrderedEntry) (e : Entry) (r : Result) :
 wake-pointer : (t : Line) (w : Wakes) → wake t w .pointer ≡ t .pointer
 wake-pointer t (Wakes.Lane i) = refl
 wake-pointer t Wakes.None = refl
-
-pub wake-lanes : (t : Line) (w : Wakes) → wake t w .lanes ≡ t .lanes
-wake-lanes t (Wakes.Lane i) = refl
-wake-lanes t Wakes.None = refl
 
 woken-count : (v : Place) (y : Phase) → countIn (woken v y) ≡ countIn y
 woken-count v y =

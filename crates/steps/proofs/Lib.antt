@@ -7,4 +7,6 @@ pub mod Edges
 pub mod Release
 pub mod Ordered
 pub mod Keeps
+pub mod Lanes
+pub mod PastFirst
 pub mod Numbers
