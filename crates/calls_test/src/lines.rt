@@ -2,6 +2,7 @@
 use decode_fields::Field8;
 use decode_fields::Field16;
 use decode_fields::Field32;
+use limits::MOST_LANES;
 use line::Lane;
 use line::Line;
 use line::Phase;
@@ -74,7 +75,7 @@ pub fn set_lane(line: Line, bytes: &[u8]) -> Line {
     let purpose = purpose_of(u8_at(bytes, 3));
     let place = Place(u32_at(bytes, 4));
     let phase = phase_of(u8_at(bytes, 2), purpose, place, u16_at(bytes, 8));
-    if 64 <= i {
+    if MOST_LANES <= i {
         return line;
     }
     let mut next = line;

@@ -22,7 +22,7 @@ use Rattle.steps.specs.Effects.{wake}
 use Rattle.changes.specs.declared.Change.{Change}
 use Rattle.changes.specs.declared.Seen.{Seen}
 
--- the entry in the arrays that stands for a lane's number: the number itself, if it is below 64
+-- the entry in the arrays that stands for a lane's number: the number itself, if a line can have that lane
 abbrev pub entryOf : ℕ → ℕ
 entryOf i = i % mostLanes
 

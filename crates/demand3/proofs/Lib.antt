@@ -5,4 +5,5 @@ pub mod Status
 pub mod Places
 pub mod Goes
 pub mod Theorem
+pub mod Longest
 pub mod Sheets

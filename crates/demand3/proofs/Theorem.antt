@@ -21,10 +21,11 @@ use Rattle.steps.specs.Effects.{allEntered, entered, freed, nextOf, othersDown,
 use Rattle.steps.specs.Step.{afterBy}
 use Rattle.steps.proofs.Cases.{Steps, enters, frees, looks, opens, puts, reads, receives, refuses, seeks, take-reads, take-writes, views, wants, writes}
 use Rattle.steps.proofs.Keeps.{GoodState, fresh-idle, unopened-good}
+use Rattle.steps.proofs.Lanes.{wake-lanes}
 use Rattle.trace.specs.Trace.{Entry, CallBytes, afterAll, answersWaits, entries, isAccepted, isReset, lanesIn, tellsToWait, value, wantsBy}
 use Rattle.demand3.specs.Claim.{CountTold, DemandThree, InOrder, NextAccepted, OneTurn, OnlyTurn, Status, WaitEnds, entriesAfter, enteredAfter, entriesOf, entryAfter, grants, handsOut, statusHasTurn, statusWaits, off, status, statusNext, waiting}
 use Rattle.demand3.proofs.Goes.{OnlyPhase, goes, only-turn}
-use Rattle.demand3.proofs.Places.{all-placed, count-told, gathers-all, start-gathers, total, wake-lanes}
+use Rattle.demand3.proofs.Places.{all-placed, count-told, gathers-all, start-gathers, total}
 use Rattle.trace.proofs.Seen.{by-entry, shownEntry}
 use Rattle.demand3.proofs.Status.{stand-call, statusOf, stands, turn-is, waits-is}
 use Rattle.demand3.proofs.Trace.{entryOn, fair, sent, single, then, then-good}
@@ -40,7 +41,7 @@ unfolding afterBy
 after-append [] b x = refl
 after-append (g ∷ a) b x = after-append a b (then x g)
 
-after-one : (early : List CallBytes) (g : CallBytes) (x : State) → afterAll nextLane x (early ++ g ∷ []) ≡ then (afterAll nextLane x early) g
+pub after-one : (early : List CallBytes) (g : CallBytes) (x : State) → afterAll nextLane x (early ++ g ∷ []) ≡ then (afterAll nextLane x early) g
 unfolding afterBy
 after-one early g x = after-append early (g ∷ []) x
 
@@ -81,17 +82,17 @@ told-waits x G told i t =
 
 -- ---- what is claimed after the calls `early`
 module _ (book : List ℕ) (early : List CallBytes) where
-  abbrev here : State
+  abbrev pub here : State
   here = afterAll nextLane (fresh book) early
 
-  good : GoodState here
+  pub good : GoodState here
   good = after-good early (fresh book) (unopened-good book)
 
-  stood : (i : ℕ) → status i off (entriesOf nextLane book early) ≡ statusOf (phaseAt (here .line) i)
+  pub stood : (i : ℕ) → status i off (entriesOf nextLane book early) ≡ statusOf (phaseAt (here .line) i)
   stood i =
       ap (λ (s : Status). status i s (entriesOf nextLane book early)) (sym (ap statusOf (fresh-idle 0 0 i))) ∙ stands early (fresh book) (unopened-good book) i
 
-  lanes-here : lanesIn 0 (entriesOf nextLane book early) ≡ here .line .lanes
+  pub lanes-here : lanesIn 0 (entriesOf nextLane book early) ≡ here .line .lanes
   lanes-here = lanes-are early (fresh book)
 
   waits-here : (i : ℕ) → statusWaits (status i off (entriesOf nextLane book early)) ≡ true → phases.isWaiting (phaseAt (here .line) i) ≡ true

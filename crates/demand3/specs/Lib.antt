@@ -1,2 +1,3 @@
 -- The statement of demand 3.
 pub mod Claim
+pub mod Longest

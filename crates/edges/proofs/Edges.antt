@@ -1,37 +1,42 @@
 -- The edges of document 01 hold: computed from the definitions, and for N = 1 shown of every sound line.
-use Prim.Native.Nat.{ℕ, zero, suc, _≤_, _<_}
+use Prim.Native.Nat.{ℕ, zero, suc, _+_, _≤_, _<_}
 use mathlib.Core.Path.{_≡_, refl, sym, ap, _∙_}
 use mathlib.Core.Logic.{_≢_}
-use mathlib.Core.List.{List}
-use mathlib.Core.Bool.{true, false, not, and-true}
+use mathlib.Core.List.{List, [], _∷_, map}
+use mathlib.Core.Bool.{Bool, true, false, cond, not, and-true, _&&_}
 use native.Mathlib.Omega.{arith}
 use native.Mathlib.Decide.{ℕ-discrete}
-use lib.ListN.{length, set, List·getD-map}
+use lib.ListN.{length, replicate, set, List·getD-map}
 use lib.Seq.{getD-set-other, getD-set-same}
-use lib.Dec.{eqb}
+use lib.IntN.{pos}
+use lib.Dec.{eqb, leb}
 use borrow.Author.Tests.{le-leb, le-ltb, leb-false, ne-eqb, not-false}
 use Rattle.lists.specs.Lists.{somePass}
 use Rattle.lists.proofs.Tests.{both, by-test, clash}
 use Rattle.lists.proofs.Counts.{all-from, all-set, any-count, count-one}
-use Rattle.view.specs.View.{blockRecord, endOfBook, inOrder, positionOf, viewOk}
+use Rattle.view.specs.View.{blockRecord, endOfBook, inOrder, place, positionOf, viewOk}
 use Rattle.view.specs.declared.Place.{Place}
+use Rattle.limits.specs.Limits.{leastCapacity, mostCapacity, mostLanes}
+use Rattle.line.specs.declared.Purpose.{Purpose}
 use Rattle.line.specs.declared.Phase.{Phase}
 use Rattle.line.specs.declared.Lane.{Lane}
 use Rattle.line.specs.Line.{flagFor, hasTurn, idleLane, isFlagged, isGathered, isIdle, isWaiting, lane, on, phaseAt}
 use Rattle.line.specs.Sound.{sound}
-use Rattle.line.proofs.Facts.{Facts, good-of}
+use Rattle.steps.proofs.Keeps.{GoodState, unopened-good}
+use Rattle.steps.proofs.PastFirst.{after-past-1, afterPast1, calls-good, calls-past-1, callsPast1, step-past-1, stepPast1}
+use Rattle.line.proofs.Facts.{Facts, good-of, sound-of}
 use Rattle.line.proofs.Phases.{idle-is, up-kinds, waiting-up}
 use Rattle.waitlist.specs.NextLane.{firstRaised, nextLane, raised}
 use Rattle.waitlist.specs.declared.Wakes.{Wakes}
 use Rattle.waitlist.proofs.Nearest.{Next, distance-round, next-found, next-none}
 use Rattle.event.specs.BigEndian.{bigEndian, numberOf}
-use Rattle.event.specs.Event.{fieldsIn, given}
+use Rattle.event.specs.Event.{Call, callOf, fieldsIn, given}
 use Rattle.event.specs.declared.Event.{Event}
 use Rattle.steps.specs.Answer.{saidBy}
-use Rattle.steps.specs.State.{Result, State}
-use Rattle.steps.specs.Effects.{othersDown, purposeOf, started, wantStep}
+use Rattle.steps.specs.State.{Result, State, fresh}
+use Rattle.steps.specs.Effects.{openStep, othersDown, purposeOf, started, wantStep}
 use Rattle.steps.specs.Refusals.{laneOf, namesLane}
-use Rattle.steps.specs.Step.{afterBy, callEvent, callsBy, refuse, stepBy}
+use Rattle.steps.specs.Step.{callEvent, refuse, step}
 use Rattle.steps.specs.declared.Answer.{Answer}
 use Rattle.steps.proofs.CheckingOrder.{Decided, accepted, decided, refused}
 use Rattle.steps.proofs.Edges.{free-wakes, set-down, take-region}
@@ -39,7 +44,7 @@ use Rattle.steps.proofs.Release.{raised-up}
 use Rattle.steps.proofs.Chains.{atLane, enter-chain, free-chain, look-chain, open-chain, put-chain, read-chain, receive-chain, take-chain, want-chain, write-chain}
 use Rattle.printout.specs.Run.{run, runOn}
 use Rattle.printout.specs.Print.{answerLines, answerWords, decimalIn, linebook, words}
-use Rattle.edges.specs.Edges.{Alone, EnteredInOrder, Holder, OtherEdges, Release, StarredEdges, Waits, answerTo, enter0, enter1, enter2, isSound}
+use Rattle.edges.specs.Edges.{Alone, EnteredInOrder, Holder, Lane5Releases, LastReleases, OtherEdges, Release, StarredEdges, Waits, afterEvents, answerTo, answersTo, enter0, enter1, enter2, isSound, lane5By, lastBy, minus, phasesOf, plainBy, pointer10, pointer10By, pointer3By, reached, size24By, viewedBy, writers}
 
 -- ---- phases and answers
 turn-of : (y : Phase) → isFlagged y ≡ true → isWaiting y ≡ false → hasTurn y ≡ true
@@ -99,8 +104,8 @@ module _ (x : State) (A : Alone x) where
       (ap (λ (a : Lane). a .phase)
       (getD-set-same (x .line .lane) 0 (lane (Phase.Holding (purposeOf purpose) (x .line .pointer))) idleLane (omega (arith, A .shaped .lanes-length))))
 
--- ---- N = 64, of every sound line: a release wakes the nearest lane that waits
-module _ (x : State) (i : ℕ) (h : i < 64) (H : Holder x i) where
+-- ---- N = n, of every sound line: a release wakes the nearest lane that waits
+module _ (x : State) (n i : ℕ) (h : i < n) (H : Holder x n i) where
   own : Facts (x .line)
   own = good-of (x .line) (length (x .book)) (H .shaped) (H .sound) .facts
 
@@ -112,7 +117,7 @@ module _ (x : State) (i : ℕ) (h : i < 64) (H : Holder x i) where
   own-down = ap (λ (n : ℕ). eqb n 1) (set-down (x .line .flag) i)
 
   flag-of : (j : ℕ) → j ≢ i → raised flags j ≡ isFlagged (phaseAt (x .line) j)
-  flag-of j n = ap (λ (f : ℕ). eqb f 1) (getD-set-other (x .line .flag) i j 0 0 n) ∙ raised-up (x .line) (own .base) j
+  flag-of j other = ap (λ (f : ℕ). eqb f 1) (getD-set-other (x .line .flag) i j 0 0 other) ∙ raised-up (x .line) (own .base) j
 
   has-turn : hasTurn (phaseAt (x .line) i) ≡ true
   has-turn = rw (H .holds)
@@ -123,119 +128,221 @@ module _ (x : State) (i : ℕ) (h : i < 64) (H : Holder x i) where
   waits-up : (j : ℕ) → Waits x j → raised flags j ≡ true
   waits-up j w = flag-of j (waits-other j w) ∙ waiting-up (phaseAt (x .line) j) w
 
+  entry : (j : ℕ) → j < n → j < length (x .line .lane)
+  entry j b = omega (arith, H .shaped .lanes-length, own .base .lanes-fit, H .lanes)
+
   -- one lane has the turn, so whoever else is up waits
-  up-waits : (j : ℕ) → j < 64 → raised flags j ≡ true → Waits x j
+  up-waits : (j : ℕ) → j < n → raised flags j ≡ true → Waits x j
   up-waits j b u =
-      let n : j ≢ i = λ z. both u (rw z own-down) in
+      let other : j ≢ i = λ z. both u (rw z own-down) in
       by-test (isWaiting (phaseAt (x .line) j)) (λ t. t)
-      (λ f. let up = sym (flag-of j n) ∙ u in
+      (λ f. let up = sym (flag-of j other) ∙ u in
       let turn = turn-of (phaseAt (x .line) j) up f in
       absurd
-      (n (count-one (on hasTurn) (x .line .lane) j i idleLane (omega (arith, H .shaped .lanes-length)) (omega (arith, H .shaped .lanes-length)) turn has-turn (omega (arith, own .turn .one)))))
+      (other (count-one (on hasTurn) (x .line .lane) j i idleLane (entry j b) (entry i h) turn has-turn (omega (arith, own .turn .one)))))
 
-  search-64 : nextLane (x .line .lanes) flags i ≡ nextLane 64 flags i
-  search-64 = ap (λ (n : ℕ). nextLane n flags i) (H .lanes)
+  search-n : nextLane (x .line .lanes) flags i ≡ nextLane n flags i
+  search-n = ap (λ (m : ℕ). nextLane m flags i) (H .lanes)
 
   -- the lane w that waits is the next one
-  module _ (w : ℕ) (b : w < 64) (waits : Waits x w) (next : (a : ℕ) → Next 64 flags i a → a ≡ w) where
-    woken : nextLane 64 flags i ≡ Wakes.Lane w
-    woken = go (nextLane 64 flags i) refl
+  module _ (w : ℕ) (b : w < n) (waits : Waits x w) (next : (a : ℕ) → Next n flags i a → a ≡ w) where
+    woken : nextLane n flags i ≡ Wakes.Lane w
+    woken = go (nextLane n flags i) refl
       where
-        go : (a : Wakes) → nextLane 64 flags i ≡ a → a ≡ Wakes.Lane w
-        go Wakes.None e = both (waits-up w waits) (next-none 64 flags i h own-down e w b)
-        go (Wakes.Lane a) e = ap Wakes.Lane (next a (next-found 64 flags i h own-down a e))
+        go : (a : Wakes) → nextLane n flags i ≡ a → a ≡ Wakes.Lane w
+        go Wakes.None e = both (waits-up w waits) (next-none n flags i h own-down e w b)
+        go (Wakes.Lane a) e = ap Wakes.Lane (next a (next-found n flags i h own-down a e))
 
     release : Release x i w
     release =
         record {
-          take = λ c start count a e. let r = sym (take-region nextLane x i c (ap (λ (t : Answer). saidBy t .accepted) e)) ∙ e in taken-is r ∙ search-64 ∙ woken;
-          free = λ a e. let r = sym (free-wakes nextLane x i (ap (λ (t : Answer). saidBy t .accepted) e)) ∙ e in freed-is r ∙ search-64 ∙ woken;
+          take = λ c start count a e. let r = sym (take-region nextLane x i c (ap (λ (t : Answer). saidBy t .accepted) e)) ∙ e in taken-is r ∙ search-n ∙ woken;
+          free = λ a e. let r = sym (free-wakes nextLane x i (ap (λ (t : Answer). saidBy t .accepted) e)) ∙ e in freed-is r ∙ search-n ∙ woken;
         }
 
-every-63 : (x : State) → Holder x 63 → Waits x 0 → Waits x 62 → Release x 63 0
-every-63 x H first last = release x 63 (omega arith) H 0 (omega arith) first next
+-- every lane that waits is farther from the last than lane 0 is
+last-wakes-lane0 : (x : State) (n last : ℕ) → last + 1 ≡ n → Holder x n last → Waits x 0 → Release x last 0
+last-wakes-lane0 x n last e H first = release x n last (omega arith) H 0 (omega arith) first next
   where
-    next : (a : ℕ) → Next 64 (flags x 63 (omega arith) H) 63 a → a ≡ 0
-    next a n =
+    next : (a : ℕ) → Next n (flags x n last (omega arith) H) last a → a ≡ 0
+    next a q =
         elim (ℕ-discrete 0 a) [
           | yes z ↦ sym z
           | no z ↦
-              let d = n .nearer 0 (omega arith) (waits-up x 63 (omega arith) H 0 first) z in
-              absurd (omega (arith, n .inside, distance-round 64 a 0 (omega arith), distance-round 64 63 0 (omega arith)))
+              let d = q .nearer 0 (omega arith) (waits-up x n last (omega arith) H 0 first) z in
+              let some : 0 < last = omega (arith, q .inside) in
+              absurd (omega (arith, q .inside, distance-round n a 0 (omega arith), distance-round n last 0 some))
         ]
 
-every-5 : (x : State) → Holder x 5 → Waits x 4 → ((j : ℕ) → Waits x j → j ≡ 4) → Release x 5 4
-every-5 x H fourth only =
-    release x 5 (omega arith) H 4 (omega arith) fourth (λ a n. only a (up-waits x 5 (omega arith) H a (n .inside) (n .up)))
+lane5-wakes-lane4 : (x : State) (n : ℕ) → 5 < n → Holder x n 5 → Waits x 4 → ((j : ℕ) → Waits x j → j ≡ 4) → Release x 5 4
+lane5-wakes-lane4 x n h H waits4 only = release x n 5 h H 4 (omega arith) waits4 (λ a q. only a (up-waits x n 5 h H a (q .inside) (q .up)))
+
+-- ---- what a list of events reaches, computed without the test for 1: it never applies there, and looks at each pair of entries
+module _ (n : ℕ) (events : List Event) where
+  abbrev quick : State
+  quick = afterPast1 (fresh (replicate n 0)) (map given events)
+
+  reached-good : GoodState (reached n events)
+  reached-good = calls-good (map given events) (fresh (replicate n 0)) (unopened-good (replicate n 0))
+
+  reached-quick : reached n events ≡ quick
+  reached-quick = after-past-1 (map given events) (fresh (replicate n 0)) (unopened-good (replicate n 0))
+
+  reached-sound : isSound (reached n events) ≡ true
+  reached-sound = let x = reached n events in sound-of (x .line) (length (x .book)) reached-good
+
+  call-quick : (c : Call) → step (reached n events) c ≡ stepPast1 quick c
+  call-quick c = step-past-1 (reached n events) reached-good c ∙ ap (λ (x : State). stepPast1 x c) reached-quick
+
+  answer-quick : (c : Call) → step (reached n events) c .answer ≡ stepPast1 quick c .answer
+  answer-quick c = ap (λ (r : Result). r .answer) (call-quick c)
+
+  answer-each : (f : ℕ → Event) (ks : List ℕ) → map (λ (k : ℕ). answerTo (reached n events) (f k)) ks ≡ map (λ (k : ℕ). stepPast1 quick (given (f k)) .answer) ks
+  answer-each f [] = refl
+  answer-each f (k ∷ ks) = rw (answer-quick (given (f k)), answer-each f ks)
+
+  -- more events after these
+  module _ (more : List Event) where
+    answers-quick : answersTo (reached n events) more ≡ map (λ (r : Result). r .answer) (callsPast1 quick (map given more))
+    answers-quick =
+        ap (map (λ (r : Result). r .answer)) (calls-past-1 (map given more) (reached n events) reached-good ∙ ap (λ (x : State). callsPast1 x (map given more)) reached-quick)
+
+    later-quick : afterEvents (reached n events) more ≡ afterPast1 quick (map given more)
+    later-quick = after-past-1 (map given more) (reached n events) reached-good ∙ ap (λ (x : State). afterPast1 x (map given more)) reached-quick
+
+    later-sound : isSound (afterEvents (reached n events) more) ≡ true
+    later-sound = let x = afterEvents (reached n events) more in sound-of (x .line) (length (x .book)) (calls-good (map given more) (reached n events) reached-good)
+
+-- ---- N = 64 and N = 128: by computation, and of every line
+module _ (n last below : ℕ) where
+  last-releases : last + 1 ≡ n
+      → phasesOf (quick 64 (lastBy n last below 0)) (0 ∷ below ∷ last ∷ [])
+      ≡ Phase.Waiting Purpose.SharedWrite ∷ Phase.Waiting Purpose.WholeBook ∷ Phase.Holding Purpose.SharedWrite (place 0) ∷ []
+      → stepPast1 (quick 64 (lastBy n last below 0)) (given (Event.Take last 1)) .answer ≡ Answer.Region (place 0) 1 (Wakes.Lane 0)
+      → stepPast1 (quick 64 (lastBy n last below 2)) (given (Event.Free last)) .answer ≡ Answer.Freed (Wakes.Lane 0)
+      → LastReleases n last below
+  last-releases e phases taken freed =
+      record {
+        line = ap (λ (x : State). phasesOf x (0 ∷ below ∷ last ∷ [])) (reached-quick 64 (lastBy n last below 0)) ∙ phases;
+        sound = rw (reached-sound 64 (lastBy n last below 0), reached-sound 64 (lastBy n last below 2));
+        take = answer-quick 64 (lastBy n last below 0) (given (Event.Take last 1)) ∙ taken;
+        free = answer-quick 64 (lastBy n last below 2) (given (Event.Free last)) ∙ freed;
+        every = λ x H waits0 waits-below. last-wakes-lane0 x n last e H waits0;
+      }
+
+last-of-64 : LastReleases 64 63 62
+unfolding blockRecord inOrder positionOf viewOk firstRaised nextLane started stepPast1 afterPast1
+last-of-64 = last-releases 64 63 62 refl refl refl refl
+
+last-of-128 : LastReleases 128 127 126
+unfolding blockRecord inOrder positionOf viewOk firstRaised nextLane started stepPast1 afterPast1
+last-of-128 = last-releases 128 127 126 refl refl refl refl
+
+lane5-releases : (n : ℕ) → 5 < n
+    → phasesOf (quick 64 (lane5By n 0)) (4 ∷ 5 ∷ []) ≡ Phase.Waiting Purpose.SharedRead ∷ Phase.Holding Purpose.SharedWrite (place 0) ∷ []
+    → stepPast1 (quick 64 (lane5By n 0)) (given (Event.Take 5 1)) .answer ≡ Answer.Region (place 0) 1 (Wakes.Lane 4)
+    → stepPast1 (quick 64 (lane5By n 2)) (given (Event.Free 5)) .answer ≡ Answer.Freed (Wakes.Lane 4)
+    → Lane5Releases n
+lane5-releases n h phases taken freed =
+    record {
+      line = ap (λ (x : State). phasesOf x (4 ∷ 5 ∷ [])) (reached-quick 64 (lane5By n 0)) ∙ phases;
+      sound = rw (reached-sound 64 (lane5By n 0), reached-sound 64 (lane5By n 2));
+      take = answer-quick 64 (lane5By n 0) (given (Event.Take 5 1)) ∙ taken;
+      free = answer-quick 64 (lane5By n 2) (given (Event.Free 5)) ∙ freed;
+      every = λ x H waits4 only. lane5-wakes-lane4 x n h H waits4 only;
+    }
+
+lane5-of-64 : Lane5Releases 64
+unfolding blockRecord inOrder positionOf viewOk firstRaised nextLane started stepPast1 afterPast1
+lane5-of-64 = lane5-releases 64 (omega arith) refl refl refl
+
+lane5-of-128 : Lane5Releases 128
+unfolding blockRecord inOrder positionOf viewOk firstRaised nextLane started stepPast1 afterPast1
+lane5-of-128 = lane5-releases 128 (omega arith) refl refl refl
 
 -- ---- the ordered call, in each order of entry
+module _ (a b c : Event) where
+  abbrev inTurn : List Event
+  inTurn = a ∷ b ∷ c ∷ []
+
+  entered-in-order :
+      map (λ (r : Result). r .answer) (callsPast1 (quick 120 pointer10By) (map given inTurn)) ≡ Answer.Gathered ∷ Answer.Gathered ∷ Answer.Ordered (place 10) 5 ∷ []
+      → phasesOf (afterPast1 (quick 120 pointer10By) (map given inTurn)) (0 ∷ 1 ∷ 2 ∷ []) ≡ writers
+      → afterPast1 (quick 120 pointer10By) (map given inTurn) .line .pointer ≡ place 15
+      → EnteredInOrder a b c
+  entered-in-order answered phases pointer =
+      record {
+        answers = answers-quick 120 pointer10By inTurn ∙ answered;
+        lanes = ap (λ (x : State). phasesOf x (0 ∷ 1 ∷ 2 ∷ [])) (later-quick 120 pointer10By inTurn) ∙ phases;
+        pointer = ap (λ (x : State). x .line .pointer) (later-quick 120 pointer10By inTurn) ∙ pointer;
+        sound = later-sound 120 pointer10By inTurn;
+      }
+
 order-012 : EnteredInOrder enter0 enter1 enter2
-unfolding blockRecord inOrder positionOf viewOk sound started stepBy callsBy afterBy
-order-012 = record { answers = refl; lanes = refl; pointer = refl; sound = refl }
+unfolding blockRecord inOrder positionOf viewOk started stepPast1 callsPast1 afterPast1
+order-012 = entered-in-order enter0 enter1 enter2 refl refl refl
 
 order-021 : EnteredInOrder enter0 enter2 enter1
-unfolding blockRecord inOrder positionOf viewOk sound started stepBy callsBy afterBy
-order-021 = record { answers = refl; lanes = refl; pointer = refl; sound = refl }
+unfolding blockRecord inOrder positionOf viewOk started stepPast1 callsPast1 afterPast1
+order-021 = entered-in-order enter0 enter2 enter1 refl refl refl
 
 order-102 : EnteredInOrder enter1 enter0 enter2
-unfolding blockRecord inOrder positionOf viewOk sound started stepBy callsBy afterBy
-order-102 = record { answers = refl; lanes = refl; pointer = refl; sound = refl }
+unfolding blockRecord inOrder positionOf viewOk started stepPast1 callsPast1 afterPast1
+order-102 = entered-in-order enter1 enter0 enter2 refl refl refl
 
 order-120 : EnteredInOrder enter1 enter2 enter0
-unfolding blockRecord inOrder positionOf viewOk sound started stepBy callsBy afterBy
-order-120 = record { answers = refl; lanes = refl; pointer = refl; sound = refl }
+unfolding blockRecord inOrder positionOf viewOk started stepPast1 callsPast1 afterPast1
+order-120 = entered-in-order enter1 enter2 enter0 refl refl refl
 
 order-201 : EnteredInOrder enter2 enter0 enter1
-unfolding blockRecord inOrder positionOf viewOk sound started stepBy callsBy afterBy
-order-201 = record { answers = refl; lanes = refl; pointer = refl; sound = refl }
+unfolding blockRecord inOrder positionOf viewOk started stepPast1 callsPast1 afterPast1
+order-201 = entered-in-order enter2 enter0 enter1 refl refl refl
 
 order-210 : EnteredInOrder enter2 enter1 enter0
-unfolding blockRecord inOrder positionOf viewOk sound started stepBy callsBy afterBy
-order-210 = record { answers = refl; lanes = refl; pointer = refl; sound = refl }
+unfolding blockRecord inOrder positionOf viewOk started stepPast1 callsPast1 afterPast1
+order-210 = entered-in-order enter2 enter1 enter0 refl refl refl
+
+starts-at-10 : pointer10 .line .pointer .0 ≡ 10
+unfolding blockRecord inOrder viewOk stepPast1 afterPast1
+starts-at-10 = ap (λ (x : State). x .line .pointer .0) (reached-quick 120 pointer10By)
 
 -- ---- the table
 pub starred-edges : StarredEdges
-unfolding blockRecord endOfBook inOrder positionOf viewOk sound firstRaised nextLane bigEndian numberOf fieldsIn started stepBy callsBy afterBy
+unfolding blockRecord endOfBook inOrder positionOf viewOk firstRaised nextLane bigEndian numberOf fieldsIn started stepPast1 callsPast1 afterPast1
 starred-edges =
     record {
       alone-never-waits = never-waits;
       alone-answers-holds = answers-holds;
       alone-then-holds = then-holds;
-      line-63 = refl;
-      sound-63 = refl;
-      take-63 = refl;
-      free-63 = refl;
-      every-63 = every-63;
-      line-5 = refl;
-      sound-5 = refl;
-      take-5 = refl;
-      free-5 = refl;
-      every-5 = every-5;
-      view-puts = λ content. refl;
-      view-writes = λ content. refl;
-      fit-64 = refl;
-      overfill-64 = refl;
-      fit-63 = refl;
-      overfill-63 = refl;
-      back-3 = refl;
-      back-4 = refl;
-      bytes-back-3 = refl;
-      bytes-back-4 = refl;
-      seek-most = refl;
-      seek-past = refl;
-      size-24 = refl;
-      seek-end = refl;
-      pointer-end = refl;
-      view-10 = refl;
-      pointer-10 = refl;
+      last-of-64 = last-of-64;
+      last-of-128 = last-of-128;
+      lane5-of-64 = lane5-of-64;
+      lane5-of-128 = lane5-of-128;
+      view-puts = λ content. answer-each 64 (viewedBy 2) (λ (k : ℕ). Event.Put 0 (place k) content) (0 ∷ 1 ∷ 2 ∷ 3 ∷ []);
+      view-writes = λ content. answers-quick 64 (viewedBy 0) (Event.Take 0 4 ∷ replicate 4 (Event.Write 0 content));
+      fit-64 = answer-quick 64 (plainBy 64) (given (Event.Take 0 8));
+      overfill-64 = answer-quick 64 (plainBy 64) (given (Event.Take 0 9));
+      fit-63 = answer-quick 63 (plainBy 63) (given (Event.Take 0 7));
+      overfill-63 = answer-quick 63 (plainBy 63) (given (Event.Take 0 8));
+      back-3 = answer-quick 64 pointer3By (given (Event.Seek 1 (minus 3)));
+      back-4 = answer-quick 64 pointer3By (given (Event.Seek 1 (minus 4)));
+      bytes-back-3 = answer-quick 64 pointer3By (callOf 0x0C (1 ∷ 0xFF ∷ 0xFF ∷ 0xFF ∷ 0xFD ∷ []));
+      bytes-back-4 = answer-quick 64 pointer3By (callOf 0x0C (1 ∷ 0xFF ∷ 0xFF ∷ 0xFF ∷ 0xFC ∷ []));
+      seek-most = answer-quick 64 pointer3By (given (Event.Seek 0 (pos 65536)));
+      seek-past = answer-quick 64 pointer3By (given (Event.Seek 0 (pos 65537)));
+      size-24 = ap (λ (x : State). x .line .size) (reached-quick 64 size24By);
+      seek-end = answer-quick 64 size24By (given (Event.Seek 2 (pos 0)));
+      pointer-end = ap (λ (r : Result). r .after .line .pointer) (call-quick 64 size24By (given (Event.Seek 2 (pos 0))));
+      view-10 = ap (λ (x : State). x .line .view) (reached-quick 120 pointer10By);
+      pointer-10 = ap (λ (x : State). x .line .pointer) (reached-quick 120 pointer10By);
       order-012 = order-012;
       order-021 = order-021;
       order-102 = order-102;
       order-120 = order-120;
       order-201 = order-201;
       order-210 = order-210;
-      starts = refl;
-      from-starts = refl;
+      starts = rw starts-at-10;
+      from-starts = rw starts-at-10;
     }
 
 -- ---- the edges that bear no star
@@ -262,9 +369,28 @@ module _ (x : State) (S : isSound x ≡ true) (opened : x .line .lanes ≢ 0) wh
       step-N (Event.Seek whence offset) t h = clash (sym t)
       step-N Event.Unlisted t h = clash (sym t)
 
-lanes-65 : (x : State) → isSound x ≡ true → x .line .lanes ≡ 0 → (capacity : ℕ) → answerTo x (Event.Open 65 capacity) ≡ Answer.Refused 6
-lanes-65 x S unopened capacity = ap (λ (r : Result). r .answer) (open-chain nextLane x 65 capacity) ∙ rw (S, unopened)
+lanes-129 : (x : State) → isSound x ≡ true → x .line .lanes ≡ 0 → (capacity : ℕ) → answerTo x (Event.Open 129 capacity) ≡ Answer.Refused 6
+lanes-129 x S unopened capacity = ap (λ (r : Result). r .answer) (open-chain nextLane x 129 capacity) ∙ rw (S, unopened)
+
+refused-is : (k : ℕ) → k ≢ 6 → Answer.Refused k ≢ Answer.Refused 6
+refused-is k n e = n cc
+
+-- what an opening with lanes in range gives, by the tests of 1, 5 and 7: other numbers, and an opening is no refusal
+abbrev openingBy : State → ℕ → ℕ → Bool → Bool → Bool → Result
+openingBy x lanes capacity ok unopened small = cond (not ok) (refuse 1 x) (cond (not unopened) (refuse 5 x) (cond small (refuse 7 x) (openStep x lanes capacity)))
+
+opening-not-6 : (x : State) (lanes capacity : ℕ) (ok unopened small : Bool) → openingBy x lanes capacity ok unopened small .answer ≢ Answer.Refused 6
+opening-not-6 x lanes capacity false unopened small e = refused-is 1 (λ z. omega arith) e
+opening-not-6 x lanes capacity true false small e = refused-is 5 (λ z. omega arith) e
+opening-not-6 x lanes capacity true true true e = refused-is 7 (λ z. omega arith) e
+opening-not-6 x lanes capacity true true false e = let z : _≡_ {A = ℕ} 0 1 = cc in absurd (omega arith)
+
+lanes-inside : (x : State) (lanes capacity : ℕ) → 1 ≤ lanes → lanes ≤ 128 → answerTo x (Event.Open lanes capacity) ≢ Answer.Refused 6
+lanes-inside x lanes capacity low high e =
+    let small = not (leb leastCapacity capacity && leb capacity mostCapacity && leb capacity (length (x .book))) in
+    let opening : callEvent x (Event.Open lanes capacity) ≡ openingBy x lanes capacity (isSound x) (eqb (x .line .lanes) 0) small = open-chain nextLane x lanes capacity ∙ rw (le-leb 1 lanes low, le-leb lanes mostLanes high) in
+    opening-not-6 x lanes capacity (isSound x) (eqb (x .line .lanes) 0) small (sym (ap (λ (r : Result). r .answer) opening) ∙ e)
 
 pub other-edges : OtherEdges
 unfolding sound run runOn answerLines answerWords decimalIn linebook words
-other-edges = record { lanes-65 = lanes-65; lane-N = lane-N; empty-sheet = refl }
+other-edges = record { lanes-129 = lanes-129; lanes-inside = lanes-inside; lane-N = lane-N; empty-sheet = refl }

@@ -48,18 +48,18 @@ phasesOf x lanes = map (phaseAt (x .line)) lanes
 abbrev pub minus : ℕ → ℤ
 minus n = negℤ (pos n)
 
--- ---- the lines of the edges
+-- ---- the lines of the edges, each with the events that lead to it
 -- a sound line of one lane, whatever else it is
 pub record Alone (x : State) : Type 0 where
   pub shaped : Shaped (x .line)
   pub sound : isSound x ≡ true
   pub one : x .line .lanes ≡ 1
 
--- a sound line of 64 lanes on which lane i holds, whatever else it is
-pub record Holder (x : State) (i : ℕ) : Type 0 where
+-- a sound line of n lanes on which lane i holds, whatever else it is
+pub record Holder (x : State) (n i : ℕ) : Type 0 where
   pub shaped : Shaped (x .line)
   pub sound : isSound x ≡ true
-  pub lanes : x .line .lanes ≡ 64
+  pub lanes : x .line .lanes ≡ n
   pub purpose : Purpose
   pub value : Place
   pub holds : phaseAt (x .line) i ≡ Phase.Holding purpose value
@@ -72,13 +72,37 @@ pub record Release (x : State) (i w : ℕ) : Type 0 where
   pub take : (c : ℕ) (start : Place) (count : ℕ) (a : Wakes) → answerTo x (Event.Take i c) ≡ Answer.Region start count a → a ≡ Wakes.Lane w
   pub free : (a : Wakes) → answerTo x (Event.Free i) ≡ Answer.Freed a → a ≡ Wakes.Lane w
 
--- N = 64: lane 63 holds for this purpose, 0 and 62 wait
-abbrev pub at63 : ℕ → State
-at63 purpose = reached 64 (Event.Open 64 64 ∷ Event.Want 63 purpose ∷ Event.Want 0 0 ∷ Event.Want 62 2 ∷ [])
+-- N = n: its last lane holds for this purpose, 0 and the lane below the last wait
+abbrev pub lastBy : ℕ → ℕ → ℕ → ℕ → List Event
+lastBy n last below purpose = Event.Open n 64 ∷ Event.Want last purpose ∷ Event.Want 0 0 ∷ Event.Want below 2 ∷ []
 
--- N = 64: lane 5 holds for this purpose, only 4 waits
-abbrev pub at5 : ℕ → State
-at5 purpose = reached 64 (Event.Open 64 64 ∷ Event.Want 5 purpose ∷ Event.Want 4 1 ∷ [])
+abbrev pub lastHolds : ℕ → ℕ → ℕ → ℕ → State
+lastHolds n last below purpose = reached 64 (lastBy n last below purpose)
+
+-- "lane 63 releases, 0 and 62 wait: wakes 0", of a line of n lanes
+pub record LastReleases (n last below : ℕ) : Type 0 where
+  pub line :
+      phasesOf (lastHolds n last below 0) (0 ∷ below ∷ last ∷ [])
+      ≡ Phase.Waiting Purpose.SharedWrite ∷ Phase.Waiting Purpose.WholeBook ∷ Phase.Holding Purpose.SharedWrite (place 0) ∷ []
+  pub sound : map (λ (purpose : ℕ). isSound (lastHolds n last below purpose)) (0 ∷ 2 ∷ []) ≡ true ∷ true ∷ []
+  pub take : answerTo (lastHolds n last below 0) (Event.Take last 1) ≡ Answer.Region (place 0) 1 (Wakes.Lane 0)
+  pub free : answerTo (lastHolds n last below 2) (Event.Free last) ≡ Answer.Freed (Wakes.Lane 0)
+  pub every : (x : State) → Holder x n last → Waits x 0 → Waits x below → Release x last 0
+
+-- N = n: lane 5 holds for this purpose, only 4 waits
+abbrev pub lane5By : ℕ → ℕ → List Event
+lane5By n purpose = Event.Open n 64 ∷ Event.Want 5 purpose ∷ Event.Want 4 1 ∷ []
+
+abbrev pub lane5Holds : ℕ → ℕ → State
+lane5Holds n purpose = reached 64 (lane5By n purpose)
+
+-- "Lane 5 releases, only 4 waits: wakes 4", of a line of n lanes
+pub record Lane5Releases (n : ℕ) : Type 0 where
+  pub line : phasesOf (lane5Holds n 0) (4 ∷ 5 ∷ []) ≡ Phase.Waiting Purpose.SharedRead ∷ Phase.Holding Purpose.SharedWrite (place 0) ∷ []
+  pub sound : map (λ (purpose : ℕ). isSound (lane5Holds n purpose)) (0 ∷ 2 ∷ []) ≡ true ∷ true ∷ []
+  pub take : answerTo (lane5Holds n 0) (Event.Take 5 1) ≡ Answer.Region (place 0) 1 (Wakes.Lane 4)
+  pub free : answerTo (lane5Holds n 2) (Event.Free 5) ≡ Answer.Freed (Wakes.Lane 4)
+  pub every : (x : State) → Holder x n 5 → Waits x 4 → ((j : ℕ) → Waits x j → j ≡ 4) → Release x 5 4
 
 -- displacement 4, extent 5, blocks (1, 2) and (4, 1); lane 0 holds for this purpose
 abbrev pub twoBlocks : Blocks
@@ -94,24 +118,39 @@ twoBlocks =
       b7 = block 0 0;
     }
 
+abbrev pub viewedBy : ℕ → List Event
+viewedBy purpose = Event.Open 1 64 ∷ Event.View 4 5 2 twoBlocks ∷ Event.Want 0 purpose ∷ []
+
 abbrev pub viewed : ℕ → State
-viewed purpose = reached 64 (Event.Open 1 64 ∷ Event.View 4 5 2 twoBlocks ∷ Event.Want 0 purpose ∷ [])
+viewed purpose = reached 64 (viewedBy purpose)
 
 -- plain view, this capacity, pointer 0; lane 0 holds for a shared write
+abbrev pub plainBy : ℕ → List Event
+plainBy capacity = Event.Open 1 capacity ∷ Event.Want 0 0 ∷ []
+
 abbrev pub plain : ℕ → State
-plain capacity = reached capacity (Event.Open 1 capacity ∷ Event.Want 0 0 ∷ [])
+plain capacity = reached capacity (plainBy capacity)
 
 -- pointer 3
+abbrev pub pointer3By : List Event
+pointer3By = Event.Open 1 64 ∷ Event.Seek 0 (pos 3) ∷ []
+
 abbrev pub pointer3 : State
-pointer3 = reached 64 (Event.Open 1 64 ∷ Event.Seek 0 (pos 3) ∷ [])
+pointer3 = reached 64 pointer3By
 
 -- size 24: a record was put at place 2
+abbrev pub size24By : List Event
+size24By = Event.Open 1 64 ∷ Event.Want 0 2 ∷ Event.Put 0 (place 2) 7 ∷ Event.Free 0 ∷ []
+
 abbrev pub size24 : State
-size24 = reached 64 (Event.Open 1 64 ∷ Event.Want 0 2 ∷ Event.Put 0 (place 2) 7 ∷ Event.Free 0 ∷ [])
+size24 = reached 64 size24By
 
 -- plain view, capacity 120, N = 3, pointer 10
+abbrev pub pointer10By : List Event
+pointer10By = Event.Open 3 120 ∷ Event.Seek 0 (pos 10) ∷ []
+
 abbrev pub pointer10 : State
-pointer10 = reached 120 (Event.Open 3 120 ∷ Event.Seek 0 (pos 10) ∷ [])
+pointer10 = reached 120 pointer10By
 
 -- lanes 0, 1, 2 enter 2, 0, 3
 abbrev pub enter0 : Event
@@ -150,20 +189,12 @@ pub record StarredEdges : Type 0 where
       → answerTo x (Event.Want 0 purpose) ≡ Answer.Holds (x .line .pointer)
   pub alone-then-holds : (x : State) → Alone x → phaseAt (x .line) 0 ≡ Phase.Idle → (purpose : ℕ) → purpose ≤ 2
       → phaseAt (callEvent x (Event.Want 0 purpose) .after .line) 0 ≡ Phase.Holding (purposeOf purpose) (x .line .pointer)
-  -- "N = 64, lane 63 releases, 0 and 62 wait: wakes 0"
-  pub line-63 :
-      phasesOf (at63 0) (0 ∷ 62 ∷ 63 ∷ [])
-      ≡ Phase.Waiting Purpose.SharedWrite ∷ Phase.Waiting Purpose.WholeBook ∷ Phase.Holding Purpose.SharedWrite (place 0) ∷ []
-  pub sound-63 : map (λ (purpose : ℕ). isSound (at63 purpose)) (0 ∷ 2 ∷ []) ≡ true ∷ true ∷ []
-  pub take-63 : answerTo (at63 0) (Event.Take 63 1) ≡ Answer.Region (place 0) 1 (Wakes.Lane 0)
-  pub free-63 : answerTo (at63 2) (Event.Free 63) ≡ Answer.Freed (Wakes.Lane 0)
-  pub every-63 : (x : State) → Holder x 63 → Waits x 0 → Waits x 62 → Release x 63 0
-  -- "Lane 5 releases, only 4 waits: wakes 4"
-  pub line-5 : phasesOf (at5 0) (4 ∷ 5 ∷ []) ≡ Phase.Waiting Purpose.SharedRead ∷ Phase.Holding Purpose.SharedWrite (place 0) ∷ []
-  pub sound-5 : map (λ (purpose : ℕ). isSound (at5 purpose)) (0 ∷ 2 ∷ []) ≡ true ∷ true ∷ []
-  pub take-5 : answerTo (at5 0) (Event.Take 5 1) ≡ Answer.Region (place 0) 1 (Wakes.Lane 4)
-  pub free-5 : answerTo (at5 2) (Event.Free 5) ≡ Answer.Freed (Wakes.Lane 4)
-  pub every-5 : (x : State) → Holder x 5 → Waits x 4 → ((j : ℕ) → Waits x j → j ≡ 4) → Release x 5 4
+  -- "N = 64, lane 63 releases, 0 and 62 wait: wakes 0", and its like at N = 128 (Wish 2)
+  pub last-of-64 : LastReleases 64 63 62
+  pub last-of-128 : LastReleases 128 127 126
+  -- "Lane 5 releases, only 4 waits: wakes 4", of 64 lanes and of 128
+  pub lane5-of-64 : Lane5Releases 64
+  pub lane5-of-128 : Lane5Releases 128
   -- "Displacement 4, extent 5, blocks (1, 2) and (4, 1): places 0, 1, 2, 3 lie at 12, 20, 36, 52"
   pub view-puts : (content : ℕ)
       → map (λ (k : ℕ). answerTo (viewed 2) (Event.Put 0 (place k) content)) (0 ∷ 1 ∷ 2 ∷ 3 ∷ [])
@@ -207,8 +238,10 @@ pub record StarredEdges : Type 0 where
 
 -- ---- the edges that bear no star
 pub record OtherEdges : Type 0 where
-  -- "N = 65 gives 6"
-  pub lanes-65 : (x : State) → isSound x ≡ true → x .line .lanes ≡ 0 → (capacity : ℕ) → answerTo x (Event.Open 65 capacity) ≡ Answer.Refused 6
+  -- "01's edge becomes N = 129" (Wish 2): gives 6
+  pub lanes-129 : (x : State) → isSound x ≡ true → x .line .lanes ≡ 0 → (capacity : ℕ) → answerTo x (Event.Open 129 capacity) ≡ Answer.Refused 6
+  -- "The lanes of 01 become 1 to 128" (Wish 2): no number of lanes in that range gets 6, whatever the line
+  pub lanes-inside : (x : State) (lanes capacity : ℕ) → 1 ≤ lanes → lanes ≤ 128 → answerTo x (Event.Open lanes capacity) ≢ Answer.Refused 6
   -- "lane N gives 8", for every call that names a lane
   pub lane-N : (x : State) → isSound x ≡ true → x .line .lanes ≢ 0 → (e : Event) → namesLane e ≡ true → laneOf e ≡ x .line .lanes
       → answerTo x e ≡ Answer.Refused 8

@@ -1,9 +1,9 @@
 -- The numbers that document 01 sets as limits, each in one place of the definitions.
 use Prim.Native.Nat.{ℕ}
 
--- "N is 1 to 64"; the code's array lengths are held to this number by the contract of `Line::unopened`
+-- "The lanes of 01 become 1 to 128" (Wish 2; 64 before); the code's array lengths are held to this number by the contract of `Line::unopened`
 abbrev pub mostLanes : ℕ
-mostLanes = 64
+mostLanes = 128
 
 -- "The capacity is 8 to 65,536 bytes"
 abbrev pub leastCapacity : ℕ

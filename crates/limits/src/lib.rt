@@ -1,7 +1,7 @@
 // The limits of a line, its book, its view and a sheet: the code's one place for each. The definitions have their own, specs/Limits; contracts hold the two to one value.
 
 // The most lanes that a line has.
-pub const MOST_LANES: usize = 64;
+pub const MOST_LANES: usize = 128;
 
 // The least and the greatest capacity of a book, in bytes.
 pub const LEAST_CAPACITY: u32 = 8;

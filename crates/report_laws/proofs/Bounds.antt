@@ -5,7 +5,6 @@ use mathlib.Core.Bool.{Bool, true, false, cond}
 use mathlib.Core.List.{List, [], _∷_}
 use native.Mathlib.Omega.{arith}
 use native.Mathlib.Nat.{le-trans, mul-le-mul-left}
-use native.Mathlib.Decide.{decLt}
 use lib.ListN.{getD, length, replicate}
 use borrow.Author.Tests.{ne-eqb}
 use Rattle.limits.specs.Limits.{mostLanes}
@@ -16,7 +15,7 @@ use Rattle.line.proofs.Facts.{good-of}
 use Rattle.line.proofs.Phases.{waiting-up}
 use Rattle.waitlist.specs.Distance.{distance}
 use Rattle.waitlist.specs.NextLane.{nextLane}
-use Rattle.waitlist.proofs.Nearest.{distance-round, distance-up}
+use Rattle.waitlist.proofs.Nearest.{distance-below-lanes}
 use Rattle.steps.specs.State.{State}
 use Rattle.steps.specs.Step.{afterBy, stepBy}
 use Rattle.steps.proofs.Keeps.{GoodState}
@@ -67,10 +66,6 @@ wait-within-distance (g ∷ gs) x i h G wi th s = go (turn-on x G i h wi th g) (
         let r = ih j w t (rw f at s) in
         let d : releasesToWake i (entries nextLane (then x g) gs) ≤ distance (x .line .lanes) j i = rw n at (r .most) in
         rw (a, f) (record { least = omega arith; most = omega arith })
-
-pub distance-below-lanes : (n h i : ℕ) → h < n → i < n → distance n h i ≤ n - 1
-distance-below-lanes n h i p q =
-    elim (decLt i h) [ yes k ↦ rw (distance-round n h i k) (omega arith) | no k ↦ rw (distance-up n h i (omega arith)) (omega arith) ]
 
 -- ---- the waits that a run tells
 -- the wait of a lane that waits

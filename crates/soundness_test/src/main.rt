@@ -1,5 +1,6 @@
 // Lines that break one rule of a sound line each, and sound lines at the edges, tested by `is_sound`.
 ghost use Prim.Native.Nat.{_<_};
+ghost use Rattle.limits.specs.Limits.{mostLanes};
 use line::Lane;
 use line::Line;
 use line::Phase;
@@ -39,7 +40,7 @@ fn idle() -> Line {
 }
 
 fn with(line: Line, i: usize, phase: Phase, flag: u8) -> Line
-    requires { ⌜ i < 64 ⌝ }
+    requires { ⌜ i < mostLanes ⌝ }
 {
     let mut next = line;
     next.lane[i] = Lane { phase };
@@ -48,7 +49,7 @@ fn with(line: Line, i: usize, phase: Phase, flag: u8) -> Line
 }
 
 fn say_lane(what: &[u8], line: Line, i: usize, phase: Phase, flag: u8)
-    requires { ⌜ i < 64 ⌝ }
+    requires { ⌜ i < mostLanes ⌝ }
 {
     say(what, with(line, i, phase, flag), 64);
 }
@@ -86,14 +87,15 @@ fn test_numbers() {
     say(b"idle", line, 64);
     say(b"buffer one short", line, 63);
     say_numbers(
-        b"N = 64 and the greatest numbers",
-        64,
+        b"N = 128 and the greatest numbers",
+        128,
         65536,
         65536,
         65536,
         65536,
     );
     say_numbers(b"N = 65", 65, 64, 24, 3, 64);
+    say_numbers(b"N = 129", 129, 64, 24, 3, 64);
     say_numbers(b"N = 255", 255, 64, 24, 3, 64);
     say_numbers(b"capacity 8", 1, 8, 8, 0, 8);
     say_numbers(b"capacity 7", 1, 7, 0, 0, 64);
@@ -257,6 +259,7 @@ fn test_past() {
     say_lane(b"busy at N - 1", line, 2, reading(0, 1), 0);
     say_lane(b"busy at N", line, 3, reading(0, 1), 0);
     say_lane(b"busy at 63", line, 63, reading(0, 1), 0);
+    say_lane(b"busy at 127", line, 127, reading(0, 1), 0);
     say_lane(b"a holder at N", line, 3, holding(3), 1);
     say_lane(b"a flag up at N", held(), 3, Phase::Idle, 1);
 }

@@ -83,7 +83,7 @@ notOpen = reason 4 (λ x e. not (is 0x01 e) && eqb (x .line .lanes) 0)
 abbrev pub alreadyOpen : Reason
 alreadyOpen = reason 5 (λ x e. is 0x01 e && not (eqb (x .line .lanes) 0))
 
--- "6. The lanes of 01 are not 1 to 64"
+-- "6. The lanes of 01 are not 1 to 64", with Wish 2 "1 to 128"
 abbrev pub lanesOutside : Reason
 lanesOutside = reason 6 (λ x e. is 0x01 e && not (leb 1 (field 0 e) && leb (field 0 e) mostLanes))
 

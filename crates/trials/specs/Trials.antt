@@ -30,7 +30,7 @@ entering lane count = call 0x0A (lane ∷ 0 ∷ count ∷ [])
 abbrev pub book64 : List ℕ
 book64 = replicate 64 255
 
--- ---- the longest wait: 64 lanes; lane 0 holds, the others want in rising number, and lane 63 is the last to be told to wait
+-- ---- the longest wait of n lanes: lane 0 holds, the others want in rising number, and the last one is told to wait
 unfoldable pub wantsFrom : ℕ → ℕ → List CallBytes
 wantsFrom lane zero = []
 wantsFrom lane (suc more) = wanting lane 0 ∷ wantsFrom (lane + 1) more
@@ -39,15 +39,14 @@ unfoldable pub passesFrom : ℕ → ℕ → List CallBytes
 passesFrom lane zero = []
 passesFrom lane (suc more) = receiving lane ∷ taking lane 0 ∷ passesFrom (lane + 1) more
 
--- the calls until lane 63 is told to wait, and then 62 releases: by lane 0 and by lanes 1 to 61; the 63rd is lane 62's
-abbrev pub longEarly : List CallBytes
-longEarly = opening 64 ∷ wantsFrom 0 64
+-- the calls until the last lane is told to wait
+abbrev pub longEarly : ℕ → List CallBytes
+longEarly n = opening n ∷ wantsFrom 0 n
 
-abbrev pub long62 : List CallBytes
-long62 = taking 0 0 ∷ passesFrom 1 61
-
-abbrev pub long63 : List CallBytes
-long63 = taking 0 0 ∷ passesFrom 1 62
+-- so many releases: by lane 0, and then by each lane that is woken
+abbrev pub longLater : ℕ → List CallBytes
+longLater zero = []
+longLater (suc more) = taking 0 0 ∷ passesFrom 1 more
 
 -- ---- whole-book, shared and ordered work mixed, on three lanes: lane 0 holds the whole book, 1 waits to write, 2 waits to read
 abbrev pub mixed : List CallBytes

@@ -3,9 +3,10 @@ use Prim.Native.Nat.{ℕ}
 use mathlib.Core.List.{List}
 use Rattle.printout.specs.Text.{ascii}
 
--- 1.0.0: document 01 whole; 1.1.0: the programs tell what went wrong, and `sheet trace`; 1.2.0: the report of waiting
+-- 1.0.0: document 01 whole; 1.1.0: the programs tell what went wrong, and `sheet trace`; 1.2.0: the report of waiting;
+-- 2.0.0: 128 lanes, and so a longer report, which is lent by its layout
 abbrev pub versionNumber : ℕ
-versionNumber = 10200
+versionNumber = 20000
 
 abbrev pub versionLine : List ℕ
-versionLine = ascii "gudlemi 1.2.0\n"
+versionLine = ascii "gudlemi 2.0.0\n"

@@ -2,6 +2,7 @@
 use Prim.Native.Nat.{_<_}
 use native.Mathlib.Omega.{arith}
 use borrow.Author.Needs.{needs}
+use Rattle.limits.specs.Limits.{mostLanes}
 use Rattle.line.specs.Line.{Shaped}
 use Rattle.refuse.proofs.Shape.{shape-of}
 use Rattle.ordered_calls.proofs.Steps.{index-in, past-idle}
@@ -24,7 +25,7 @@ returns-2 c =
     lane-refused (s .args .line) (s .args .book .now) (s .pre) (s .args .lane) (s .args .count) _ (e1 .if1 .left) (c .before .if2 .taken) (c .refuse2 .ensures)
 
 -- the lane has an entry
-has-entry : (c : tie.Else2) → c .before .before .before .before .before .args .lane < 64
+has-entry : (c : tie.Else2) → c .before .before .before .before .before .args .lane < mostLanes
 has-entry c =
     let s = c .before .before .before .before .before in
     index-in (s .args .line) (s .args .book .now) (shape s) (s .pre) (s .args .lane) (c .if2 .left)

@@ -7,6 +7,7 @@ use native.Mathlib.Omega.{arith}
 use borrow.Author.Needs.{needs}
 use lib.ListN.{length, take, drop, length-set}
 use Rattle.lists.specs.Lists.{allPass}
+use Rattle.limits.specs.Limits.{mostLanes}
 use Rattle.line.specs.Line.{idleLane, isIdle, on}
 use Rattle.steps.specs.Effects.{started}
 use Rattle.ordered_calls.proofs.Started.{all-done, past-kept, turn}
@@ -15,13 +16,13 @@ use Rattle.ordered_calls.proofs.start_all.Tie as tie
 
 abbrev Inv-loop : tie.InvT-loop
 Inv-loop n pointer end out₀ at₀ r₀ out at r =
-    (take r out ++ started at (drop r out) ≡ started pointer out₀) × (length out ≡ 64) × (at ≤ pointer + 65535 * r) × (r ≤ n) × (allPass (on isIdle) (drop n out) ≡ true)
+    (take r out ++ started at (drop r out) ≡ started pointer out₀) × (length out ≡ mostLanes) × (at ≤ pointer + 65535 * r) × (r ≤ n) × (allPass (on isIdle) (drop n out) ≡ true)
 
 abbrev μ-loop : tie.MeasureT-loop
 μ-loop n pointer end out₀ at₀ r₀ out at r = n - r
 
 loop-holds : tie.Need-loop-holds Inv-loop μ-loop
-loop-holds c = let len : length (c .args .lanes) ≡ 64 = search needs in (refl, len, omega arith, omega arith, c .pre .1 .idle)
+loop-holds c = let len : length (c .args .lanes) ≡ mostLanes = search needs in (refl, len, omega arith, omega arith, c .pre .1 .idle)
 
 loop-again : tie.Need-loop-again Inv-loop μ-loop
 loop-again c =

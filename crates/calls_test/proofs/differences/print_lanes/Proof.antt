@@ -1,14 +1,15 @@
 -- `calls_test::differences::print_lanes` is safe and ends. The measure is the number of lanes that are left.
 use Prim.Native.Nat.{_-_, _≤_}
 use borrow.Author.Needs.{needs}
+use Rattle.limits.specs.Limits.{mostLanes}
 use Rattle.calls_test.proofs.differences.print_lanes.Statement.{statement}
 use Rattle.calls_test.proofs.differences.print_lanes.Tie as tie
 
 abbrev Inv-loop : tie.InvT-loop
-Inv-loop was is i₀ i = i ≤ 64
+Inv-loop was is i₀ i = i ≤ mostLanes
 
 abbrev μ-loop : tie.MeasureT-loop
-μ-loop was is i₀ i = 64 - i
+μ-loop was is i₀ i = mostLanes - i
 
 pub print-lanes-spec : {M : Type 1} → statement M
 print-lanes-spec =

@@ -1,4 +1,4 @@
--- `row_length` meets its contract: a line has 64 entries.
+-- `row_length` meets its contract: a line has `mostLanes` entries.
 use native.Mathlib.Omega.{arith}
 use lib.ListN.{length-map, length-take, take}
 use borrow.Author.Needs.{needs}
