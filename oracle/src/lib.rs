@@ -1,5 +1,5 @@
 //! A second program by other hands for document 01, "The shared book of a
-//! grader line", and Wish 1: clear rather than fast, to be held against `linebook`.
+//! grader line", and Wishes 1 and 2: clear rather than fast, to be held against `linebook`.
 
 pub mod answer;
 pub mod cover;

@@ -2,7 +2,8 @@
 
 use crate::event::Blocks;
 
-pub const MOST_LANES: usize = 64;
+/// Wish 2: all that follows from the most lanes goes by this number.
+pub const MOST_LANES: usize = 128;
 pub const LEAST_CAPACITY: u32 = 8;
 pub const MOST_CAPACITY: u32 = 65_536;
 pub const MOST_POINTER: u32 = 65_536;
@@ -91,7 +92,8 @@ impl View {
     }
 }
 
-/// Everything of the line but the book's bytes. The vectors have 64 entries.
+/// Everything of the line but the book's bytes. The vectors have an entry
+/// for each lane that a line can have.
 #[derive(Clone, PartialEq, Eq, Debug)]
 pub struct Line {
     pub lanes: usize,

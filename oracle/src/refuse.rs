@@ -1,4 +1,4 @@
-//! The reasons for refusing, one function for each number of document 01 and Wish 1.
+//! The reasons for refusing, one function for each number of document 01 and Wishes 1 and 2.
 //! Every reason is looked at for every event, and the lowest is given; 17 alone is looked
 //! for once, after 1 and before the first event of a run with a report.
 
@@ -22,7 +22,7 @@ pub fn call_refusals(line: &Line, book_bytes: usize, event: &Event) -> Vec<u8> {
     let tests = [
         (4, refuse_4_other_than_01_before_open(line, event)),
         (5, refuse_5_open_comes_to_open_line(line, event)),
-        (6, refuse_6_lanes_not_1_to_64(event)),
+        (6, refuse_6_lanes_not_1_to_128(event)),
         (7, refuse_7_capacity_not_8_to_65536_or_over_buffer(book_bytes, event)),
         (8, refuse_8_lane_not_below_n(line, event)),
         (9, refuse_9_purpose_or_whence_above_2(event)),
@@ -72,8 +72,8 @@ pub fn refuse_5_open_comes_to_open_line(line: &Line, event: &Event) -> bool {
     line.is_open() && matches!(event, Event::Open { .. })
 }
 
-/// 6. The lanes of 01 are not 1 to 64.
-pub fn refuse_6_lanes_not_1_to_64(event: &Event) -> bool {
+/// 6. The lanes of 01 are not 1 to 128 (Wish 2).
+pub fn refuse_6_lanes_not_1_to_128(event: &Event) -> bool {
     match *event {
         Event::Open { lanes, .. } => lanes < 1 || lanes as usize > MOST_LANES,
         _ => false,

@@ -94,7 +94,7 @@ impl Report {
         }
     }
 
-    /// 65 rows of times, sum, largest and unended, 8 bytes big-endian each.
+    /// 129 rows of times, sum, largest and unended, 8 bytes big-endian each: 4,128 bytes.
     pub fn to_bytes(&self) -> Vec<u8> {
         self.rows().flat_map(|row| row.numbers()).flat_map(u64::to_be_bytes).collect()
     }

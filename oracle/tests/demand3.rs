@@ -46,7 +46,33 @@ fn search_from_lane_zero_is_caught_on_made_up_sheets() {
         }
     }
     assert!(caught > 20, "only {caught} sheets show it");
-    assert!(tally.longest_d == 63 && tally.stretches > 200);
+    assert!(tally.longest_d == 127 && tally.most_releases == 127 && tally.stretches > 200);
+}
+
+/// Lane 0 holds and all others wait, the last one first; then each has its turn up to 126.
+fn longest_wait() -> Vec<u8> {
+    let want = |lane| Event::Want { lane, purpose: 0 };
+    let mut events = vec![Event::Open { lanes: 128, capacity: 64 }, want(0)];
+    events.extend((1..128).rev().map(want));
+    for lane in 0..127 {
+        events.extend([Event::Take { lane, count: 0 }, Event::Receive { lane: lane + 1 }]);
+    }
+    sheet_of(&events)
+}
+
+#[test]
+fn the_longest_wait_of_128_lanes() {
+    let sheet = longest_wait();
+    let mut tally = Tally::default();
+    check(&sheet, &print_sheet(&sheet, Search::AfterReleaser), &mut tally).unwrap();
+    assert_eq!((tally.waits, tally.wakes, tally.still_due), (127, 127, 0));
+    assert_eq!((tally.longest_d, tally.most_releases, tally.releases), (127, 127, 127));
+    let late = planted(&sheet, "region 0 0 wakes 127", "region 0 0 wakes none");
+    assert_eq!(late, "lane 127 waits on after release 127, its wake was due by 127");
+    let none = planted(&sheet, "region 0 0 wakes 127", "region 0 0 wakes 128");
+    assert_eq!(none, "lane 128 of 128 is woken");
+    let lanes = planted(&sheet, "open 128 64", "open 129 64");
+    assert_eq!(lanes, "opened with 129 lanes");
 }
 
 /// What `demand3` says to a sheet with one printed text put for another.

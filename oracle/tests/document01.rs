@@ -1,4 +1,4 @@
-//! Document 01's example sheet, its edges, and the readings chosen.
+//! Document 01's example sheet, its edges as Wish 2 leaves them, and the readings chosen.
 
 use oracle_lib::event::Event;
 use oracle_lib::line::{Machine, Phase, Search, View};
@@ -74,6 +74,21 @@ fn next_lane_goes_round() {
     assert_eq!(say(&mut machine, Event::Free { lane: 5 }), "freed wakes 4");
 }
 
+/// The same two edges with the most lanes.
+#[test]
+fn next_lane_goes_round_128() {
+    let mut machine = opened(128, 64);
+    for lane in [127, 126, 0] {
+        machine.call(&Event::Want { lane, purpose: 0 });
+    }
+    assert_eq!(say(&mut machine, Event::Take { lane: 127, count: 0 }), "region 0 0 wakes 0");
+    let mut machine = opened(128, 64);
+    for lane in [5, 4] {
+        machine.call(&Event::Want { lane, purpose: 2 });
+    }
+    assert_eq!(say(&mut machine, Event::Free { lane: 5 }), "freed wakes 4");
+}
+
 #[test]
 fn view_positions() {
     let view = view(4, 5, &[(1, 2), (4, 1)]);
@@ -131,10 +146,15 @@ fn ordered_call_in_any_order() {
 #[test]
 fn openings_empty_and_lane_n() {
     assert_eq!(printed(&[]), "end 0 0\n");
-    assert_eq!(answers("01 41 00000040"), ["refused 6", "end 0 0"]);
+    assert_eq!(answers("01 81 00000040"), ["refused 6", "end 0 0"]);
+    assert_eq!(answers("01 80 00000040"), ["open 128 64", "end 0 0"]);
+    assert_eq!(answers("01 41 00000040"), ["open 65 64", "end 0 0"]);
+    assert_eq!(answers("01 40 00000040"), ["open 64 64", "end 0 0"]);
     assert_eq!(answers("01 00 00000007"), ["refused 6", "end 0 0"]);
     assert_eq!(answers("01 01 00010001"), ["refused 7", "end 0 0"]);
     assert_eq!(answers("01 02 00000040, 02 02 00")[1], "refused 8");
+    assert_eq!(answers("01 40 00000040, 02 40 00")[1], "refused 8");
+    assert_eq!(answers("01 80 00000040, 02 80 00")[1], "refused 8");
     assert_eq!(
         answers("02 02 00, 01 02 00000040, 01 00 00000000"),
         ["refused 4", "open 2 64", "refused 5", "end 0 0"]

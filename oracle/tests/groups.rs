@@ -13,6 +13,8 @@ use oracle_lib::sheet::{list_of, run, MOST_SHEET};
 use std::collections::BTreeSet;
 
 const COUNT: u64 = 300;
+/// Lanes of the lines on which all lanes wait for each other.
+const TURN_LANES: [usize; 7] = [2, 3, 12, 63, 64, 65, 128];
 const FIELDS: [&str; 4] = ["times", "sum", "largest", "unended"];
 const ROWS: [&str; 4] = ["first", "middle", "last", "all"];
 const VALUES: [&str; 3] = ["2^63 - 1", "2^63", "2^64 - 1"];
@@ -177,7 +179,7 @@ fn all_cases() -> Vec<String> {
     .map(String::from)
     .to_vec();
     names.extend((1..=6).map(|sheets| format!("{sheets} sheets")));
-    for lanes in [2, 3, 12, 63, 64] {
+    for lanes in TURN_LANES {
         names.push(format!("each of {lanes} lanes waits for all others"));
         names.push(format!("ended by 2, waiting: {}", lanes - 1));
         names.push(format!("ended by 3, waiting: {}", lanes - 1));
@@ -221,7 +223,7 @@ fn first_sheets_come_in_turn() {
     };
     let (turns, by_2) = (cases(WaitSort::Turns), cases(WaitSort::EndedBy2));
     let by_3 = cases(WaitSort::EndedBy3);
-    for lanes in [2, 3, 12, 63, 64] {
+    for lanes in TURN_LANES {
         assert!(turns.contains(&format!("each of {lanes} lanes waits for all others")));
         assert!(by_2.contains(&format!("ended by 2, waiting: {}", lanes - 1)));
         assert!(by_3.contains(&format!("ended by 3, waiting: {}", lanes - 1)));
@@ -238,7 +240,7 @@ fn a_sort_left_out_is_noticed() {
     assert_eq!(left_out(GroupSort::Long), ["65,536 bytes", "65,537 bytes"]);
     assert_eq!(left_out(GroupSort::TwoEdges), ["two edges"]);
     assert_eq!(left_out(GroupSort::Edge).len(), 4 * 4 * 6 + 4 * 3);
-    for name in ["1 sheets", "made-up numbers lent", "ended by 2, waiting: 63", "ordered"] {
+    for name in ["1 sheets", "made-up numbers lent", "ended by 2, waiting: 127", "ordered"] {
         assert!(left_out(GroupSort::Waiting).contains(&name.to_string()), "{name}");
     }
 }

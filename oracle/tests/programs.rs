@@ -61,6 +61,34 @@ fn report_over_files() {
     assert_eq!(told(ORACLE, &["report", "-", "-"], SHEET).status.code(), Some(2));
 }
 
+/// Lane 0 holds; 9, 63, 64, 99, 100 and 127 of 128 wait, and all but the last are woken.
+fn lanes_of_three_digits() -> Vec<u8> {
+    let waiting = [9, 63, 64, 99, 100, 127];
+    let mut sheet = vec![1, 128, 0, 0, 0, 64, 2, 0, 0];
+    waiting.iter().for_each(|&lane| sheet.extend([2, lane, 0]));
+    sheet.extend([4, 0, 0, 0]);
+    waiting[..4].iter().for_each(|&lane| sheet.extend([3, lane, 4, lane, 0, 0]));
+    sheet
+}
+
+#[test]
+fn report_lines_up_lanes_of_three_digits() {
+    let sheet = lanes_of_three_digits();
+    let output = told(ORACLE, &["report", "-"], &sheet);
+    let lines = [
+        "lane     times       sum   largest      mean remainder   unended",
+        "   9         1         1         1         1         0         0",
+        "  63         1         2         2         2         0         0",
+        "  64         1         3         3         3         0         0",
+        "  99         1         4         4         4         0         0",
+        " 100         1         5         5         5         0         0",
+        " 127         0         0         0         0         0         1",
+        " all         5        15         5         3         0         1",
+    ];
+    assert_eq!(text(&output.stdout), lines.map(|line| format!("{line}\n")).concat());
+    assert_eq!(output.status.code(), Some(0));
+}
+
 #[test]
 fn report_names_what_it_leaves_out() {
     let full = [SHEET, &[3; 65_536][SHEET.len()..]].concat();

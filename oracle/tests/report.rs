@@ -11,7 +11,11 @@ use oracle_lib::make::sheet;
 use oracle_lib::report::{waits, Report, Row, Said, Wait, FULL, REPORT_BYTES};
 use oracle_lib::sheet::{print_sheet, print_sheet_with_report, run, run_with_report, MOST_SHEET};
 
-const LAST: usize = 63;
+/// The last lane's row and the row for all, of 129 rows (Wish 2).
+const LAST: usize = 127;
+const ALL: usize = 128;
+/// First row, middle ones with those about 64, last row and the row for all.
+const ROWS: [usize; 6] = [0, 31, 63, 64, LAST, ALL];
 
 fn open(lanes: u8) -> Event {
     Event::Open { lanes, capacity: 64 }
@@ -162,16 +166,34 @@ fn a_lane_waits_again() {
     assert_eq!(grown_by(&waits_three_times()), report(&rows, row(5, 6, 2, 1)));
 }
 
-#[test]
-fn the_longest_wait_of_64_lanes() {
-    let mut events = vec![open(64)];
-    events.extend((0..64).map(want));
-    for lane in 0..63 {
+/// All lanes want, and each but the last releases in turn.
+fn each_waits_for_those_below(lanes: u8) -> Vec<Event> {
+    let mut events = vec![open(lanes)];
+    events.extend((0..lanes).map(want));
+    for lane in 0..lanes - 1 {
         events.extend([take(lane), receive(lane + 1)]);
     }
+    events
+}
+
+#[test]
+fn the_longest_wait_of_64_lanes() {
+    let left = grown_by(&each_waits_for_those_below(64));
+    assert_eq!((left.lanes[0], left.lanes[63]), (row(0, 0, 0, 0), row(1, 63, 63, 0)));
+    assert_eq!((left.lanes[64], left.lanes[LAST]), (row(0, 0, 0, 0), row(0, 0, 0, 0)));
+    assert_eq!(left.all, row(63, 2_016, 63, 0));
+}
+
+#[test]
+fn the_longest_wait_of_128_lanes() {
+    let events = each_waits_for_those_below(128);
     let left = grown_by(&events);
-    assert_eq!((left.lanes[LAST], left.lanes[0]), (row(1, 63, 63, 0), row(0, 0, 0, 0)));
-    assert_eq!(left.all, row(63, 63 * 64 / 2, 63, 0));
+    assert_eq!((left.lanes[0], left.lanes[63]), (row(0, 0, 0, 0), row(1, 63, 63, 0)));
+    assert_eq!((left.lanes[64], left.lanes[LAST]), (row(1, 64, 64, 0), row(1, 127, 127, 0)));
+    assert_eq!(left.all, row(127, 8_128, 127, 0));
+    let left = grown_by(&events[..events.len() - 2]);
+    assert_eq!((left.lanes[126], left.lanes[LAST]), (row(1, 126, 126, 0), row(0, 0, 0, 1)));
+    assert_eq!(left.all, row(126, 8_001, 126, 1));
 }
 
 // ---- waits from before the run ----
@@ -253,7 +275,7 @@ fn a_run_ended_by_2_or_3_keeps_its_growth() {
 
 // ---- 17 ----
 
-/// A report of one number; row 64 is the one for all.
+/// A report of one number; row 128 is the one for all.
 fn with_number(place: usize, field: usize, number: u64) -> Report {
     let mut bytes = Report::no_waiting().to_bytes();
     let at = place * 32 + field * 8;
@@ -264,7 +286,7 @@ fn with_number(place: usize, field: usize, number: u64) -> Report {
 #[test]
 fn seventeen_at_every_number() {
     let ordinary = bytes(&two_wait());
-    for (place, field) in [0, 31, LAST, 64].iter().flat_map(|&row| (0..4).map(move |f| (row, f))) {
+    for (place, field) in ROWS.iter().flat_map(|&row| (0..4).map(move |f| (row, f))) {
         for number in [FULL, u64::MAX] {
             for sheet in [&ordinary[..], &[], &[0x0D], &[0x01]] {
                 let lent = with_number(place, field, number);
@@ -352,7 +374,7 @@ fn seventeen_leaves_an_open_line_and_its_book() {
     let mut machine = Machine::new(Search::AfterReleaser);
     list(&mut machine, &told());
     let before = machine.clone();
-    let mut left = with_number(64, 3, FULL);
+    let mut left = with_number(ALL, 3, FULL);
     let sheet = bytes(&[take(0)]);
     assert_eq!(run_with_report(&mut machine, &sheet, &mut left), [Answer::Refused { number: 17 }]);
     assert_eq!((machine.line, machine.book), (before.line, before.book));
@@ -384,10 +406,11 @@ fn the_table() {
 
 #[test]
 fn the_table_names_lanes_with_times_or_unended_alone() {
-    let rows = [(1, row(0, 9, 9, 0)), (12, row(0, 0, 0, 3)), (LAST, row(1, 4, 4, 0))];
-    let table = report(&rows, row(1, 4, 4, 3)).table();
+    let mut rows = vec![(1, row(0, 9, 9, 0)), (12, row(0, 0, 0, 3)), (64, row(0, 0, 0, 1))];
+    rows.extend([99, 100, LAST].map(|lane| (lane, row(1, 4, 4, 0))));
+    let table = report(&rows, row(3, 12, 4, 4)).table();
     let names: Vec<&str> = table.lines().map(|line| &line[..4]).collect();
-    assert_eq!(names, ["lane", "  12", "  63", " all"]);
+    assert_eq!(names, ["lane", "  12", "  64", "  99", " 100", " 127", " all"]);
     let long = report(&[], row(12_345_678_901, u64::MAX, 0, 0)).table();
     let wanted =
         " all 12345678901 18446744073709551615         0 1494186283 5512836632         0\n";
@@ -396,17 +419,20 @@ fn the_table_names_lanes_with_times_or_unended_alone() {
 
 #[test]
 fn a_report_as_bytes() {
-    let mut left = report(&[(0, row(1, 2, 3, 4)), (LAST, row(5, 6, 7, 8))], row(9, 10, 11, 12));
+    let rows = [(0, row(1, 2, 3, 4)), (64, row(13, 14, 15, 16)), (LAST, row(5, 6, 7, 8))];
+    let mut left = report(&rows, row(9, 10, 11, 12));
     left.lanes[1].times = 0x0102_0304_0506_0708;
     let bytes = left.to_bytes();
-    assert_eq!((bytes.len(), REPORT_BYTES), (2_080, 2_080));
+    assert_eq!((bytes.len(), REPORT_BYTES), (4_128, 4_128));
     assert_eq!((bytes[7], bytes[15], bytes[23], bytes[31]), (1, 2, 3, 4));
     assert_eq!(bytes[32..40], [1, 2, 3, 4, 5, 6, 7, 8]);
     let last = |at: usize| bytes[at * 8 + 7];
-    assert_eq!([last(252), last(253), last(254), last(255)], [5, 6, 7, 8]);
-    assert_eq!([last(256), last(257), last(258), last(259)], [9, 10, 11, 12]);
+    assert_eq!([last(256), last(257), last(258), last(259)], [13, 14, 15, 16]);
+    assert_eq!([last(508), last(509), last(510), last(511)], [5, 6, 7, 8]);
+    assert_eq!([last(512), last(513), last(514), last(515)], [9, 10, 11, 12]);
     assert_eq!(Report::of_bytes(&bytes), Some(left));
-    assert_eq!(Report::of_bytes(&bytes[..2_079]), None);
+    assert_eq!(Report::of_bytes(&bytes[..4_127]), None);
+    assert_eq!(Report::of_bytes(&bytes[..2_080]), None);
 }
 
 #[test]
@@ -415,7 +441,7 @@ fn a_group_as_bytes_and_what_it_leaves() {
     let group = Group { report: with_number(5, 1, 77), sheets };
     let whole = group.to_bytes().unwrap();
     assert_eq!(Group::of_bytes(&whole).unwrap(), group);
-    for cut in [0, 2_079, 2_081, 2_080 + 4 + 11, whole.len() - 1] {
+    for cut in [0, 2_080, 4_127, 4_129, 4_128 + 4 + 11, whole.len() - 1] {
         assert!(Group::of_bytes(&whole[..cut]).is_err(), "{cut}");
     }
     let mut group = group;
@@ -471,7 +497,8 @@ fn hand_made() -> Vec<Group> {
     groups.push(over(&none, &[bytes(&told()), bytes(&[open(2), want(0), take(0)])]));
     groups.push(over(&report(&[(2, row(10, 20, 1, 5))], row(3, 7, 9, 0)), &[bytes(&two_wait())]));
     groups.push(over(&none, &[cut, full, longer]));
-    for place in [0, 31, LAST, 64] {
+    groups.push(over(&none, &[bytes(&each_waits_for_those_below(128))]));
+    for place in ROWS {
         for field in 0..4 {
             groups.push(over(&with_number(place, field, FULL), &[Vec::new(), bytes(&two_wait())]));
             groups.push(over(&with_number(place, field, FULL - 1), &[bytes(&two_wait())]));

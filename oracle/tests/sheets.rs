@@ -2,11 +2,12 @@
 
 use oracle_lib::answer::Answer;
 use oracle_lib::cover::{kinds, Cover};
-use oracle_lib::event::read_event;
+use oracle_lib::event::{read_event, Event};
 use oracle_lib::line::{Machine, Search};
 use oracle_lib::make::{all_cuts, sheet, sort_of, Sort};
 use oracle_lib::refuse::refuse_1_line_not_sound;
-use oracle_lib::sheet::print_sheet;
+use oracle_lib::report::Said;
+use oracle_lib::sheet::{list_of, print_sheet, run, MOST_SHEET};
 use std::collections::BTreeSet;
 
 #[test]
@@ -36,30 +37,66 @@ fn lengths_come_as_promised() {
     }
 }
 
+/// The events and answers of 480 sheets; those that are too long are left out.
+fn lists(seed: u64) -> Vec<Vec<Said>> {
+    let sheets = (0..480).map(|k| sheet(seed, k)).filter(|sheet| sheet.len() <= MOST_SHEET);
+    let list = |sheet: Vec<u8>| {
+        let answers = run(&mut Machine::new(Search::AfterReleaser), &sheet);
+        list_of(&sheet, &answers)
+    };
+    sheets.map(list).collect()
+}
+
 #[test]
 fn lanes_come_as_promised() {
-    let mut accepted = BTreeSet::new();
-    let mut refused = BTreeSet::new();
-    for k in 0..480 {
-        let sheet = sheet(3, k);
-        let printed = String::from_utf8(print_sheet(&sheet, Search::AfterReleaser)).unwrap();
-        let mut at = 0;
-        for line in printed.lines() {
-            let before = at;
-            let Some(Ok(event)) = read_event(&sheet, &mut at) else { break };
-            if event.kind() == 0x01 {
-                let lanes = sheet[before + 1];
-                let open = line.contains("open");
-                if open {
-                    accepted.insert(lanes)
-                } else {
-                    refused.insert(lanes)
-                };
+    let (mut accepted, mut refused) = (BTreeSet::new(), BTreeSet::new());
+    for (event, answer) in lists(3).into_iter().flatten() {
+        match (event, answer) {
+            (Event::Open { lanes, .. }, Answer::Open { .. }) => accepted.insert(lanes),
+            (Event::Open { lanes, .. }, Answer::Refused { number: 6 }) => refused.insert(lanes),
+            _ => false,
+        };
+    }
+    let promised = [1, 2, 3, 12, 63, 64, 65, 127, 128];
+    assert!(promised.iter().all(|lanes| accepted.contains(lanes)), "{accepted:?}");
+    let between = accepted.range(66..=126).count();
+    assert!(between > 10, "{accepted:?}");
+    assert_eq!(refused, BTreeSet::from([0, 129, 130, 255]));
+}
+
+/// The lanes named on lines of N lanes: those of accepted events, and those that got 8.
+fn lanes_named(lists: &[Vec<Said>], n: u64) -> (BTreeSet<usize>, BTreeSet<usize>) {
+    let (mut accepted, mut eight) = (BTreeSet::new(), BTreeSet::new());
+    for list in lists {
+        let mut open = false;
+        for (event, answer) in list {
+            if let Answer::Open { lanes, .. } = answer {
+                open = *lanes == n;
             }
+            let Some(lane) = event.lane().filter(|_| open) else { continue };
+            match answer {
+                Answer::Refused { number: 8 } => eight.insert(lane),
+                Answer::Refused { .. } => false,
+                _ => accepted.insert(lane),
+            };
         }
     }
-    assert!([1, 2, 3, 12, 63, 64].iter().all(|lanes| accepted.contains(lanes)));
-    assert!([0, 65, 255].iter().all(|lanes| refused.contains(lanes)));
+    (accepted, eight)
+}
+
+#[test]
+fn events_name_lanes_about_64_and_128() {
+    let lists = lists(3);
+    let all = |set: &BTreeSet<usize>, lanes: &[usize]| lanes.iter().all(|lane| set.contains(lane));
+    let (accepted, eight) = lanes_named(&lists, 64);
+    assert_eq!(accepted, (0..64).collect());
+    assert!(all(&eight, &[64, 65, 127, 128, 129, 255]), "{eight:?}");
+    let (accepted, eight) = lanes_named(&lists, 65);
+    assert_eq!(accepted, (0..65).collect());
+    assert!(all(&eight, &[65, 66, 127, 128, 129, 255]), "{eight:?}");
+    let (accepted, eight) = lanes_named(&lists, 128);
+    assert_eq!(accepted, (0..128).collect());
+    assert_eq!(eight, BTreeSet::from([128, 129, 255]));
 }
 
 /// Every call leaves a sound line, and a refused one leaves line and book alone.

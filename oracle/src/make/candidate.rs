@@ -58,7 +58,8 @@ impl Walk<'_> {
         }
         let lanes = self.line().lanes as u64;
         match self.random.below(4) {
-            0 => self.random.pick(&[lanes as u8, lanes as u8 + 1, 63, 64, 255]),
+            0 if self.random.one_in(2) => self.random.pick(&[lanes as u8, lanes as u8 + 1]),
+            0 => self.random.pick(&plain::EDGE_LANES),
             _ => self.random.below(lanes) as u8,
         }
     }

@@ -38,7 +38,7 @@ const FIRST_WAITING: u64 = 9;
 const WAIT_SORTS: [WaitSort; 5] =
     [WaitSort::Turns, WaitSort::EndedBy2, WaitSort::EndedBy3, WaitSort::Empty, WaitSort::MadeUp];
 /// Lanes of the lines on which all lanes wait for each other.
-const TURN_LANES: [u8; 5] = [2, 3, 12, 63, 64];
+const TURN_LANES: [u8; 7] = [2, 3, 12, 63, 64, 65, MOST_LANES as u8];
 const EDGE_VALUES: [u64; 3] = [FULL - 1, FULL, u64::MAX];
 const FIELDS: u64 = 4;
 /// First row, a middle one, last row and the row for all.
@@ -172,11 +172,14 @@ fn made_up_report(random: &mut Random) -> Report {
     report
 }
 
-/// Mostly small; about the longest waits; now and then where 32 bits end.
+/// Mostly small; about the longest waits of 64 lanes and of the most; where 32 bits end.
 fn made_up_number(random: &mut Random) -> u64 {
     match random.below(12) {
         0 => 0,
-        1..=3 => random.between(60, 70),
+        1..=3 => {
+            let lanes = random.pick(&[64, MOST_LANES as u64]);
+            random.between(lanes - 4, lanes + 6)
+        }
         4 => random.between((1 << 32) - 3, 1 << 32),
         _ => random.below(12),
     }
@@ -272,8 +275,8 @@ fn ended_by_3(random: &mut Random, lanes: u8) -> Vec<u8> {
     walk.bytes
 }
 
-/// The first, a middle and the last lane of 64 wait, are woken, and wait again to the end:
-/// every number of their rows, and of the row for all, can grow.
+/// The first, a middle and the last lane of the most lanes wait, are woken, and wait again
+/// to the end: every number of their rows, and of the row for all, can grow.
 fn waits_and_waits_again(random: &mut Random, middle: u8) -> Vec<u8> {
     let last = MOST_LANES as u8 - 1;
     let holder = if middle == 1 { 2 } else { random.between(1, u64::from(middle) - 1) as u8 };

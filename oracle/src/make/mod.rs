@@ -7,6 +7,7 @@ mod segments;
 mod walk;
 
 use crate::event::body_length;
+use crate::line::MOST_LANES;
 use crate::random::Random;
 use crate::sheet::MOST_SHEET;
 pub use groups::{first_sheet_sort_of, group, group_sort_of, GroupSort, WaitSort};
@@ -28,6 +29,8 @@ pub enum Sort {
 }
 
 const ROUND: u64 = 48;
+/// The events that fill a sheet up name these lanes: all, and a few past the last.
+const PADDING_LANES: usize = MOST_LANES + 3;
 
 /// The sort of sheet k: the sorts come round every 48 sheets, long ones last.
 pub fn sort_of(k: u64) -> Sort {
@@ -107,7 +110,7 @@ fn padded(mut bytes: Vec<u8>) -> Vec<u8> {
         if MOST_SHEET - bytes.len() == 3 {
             bytes.extend([0x02, 0, 3]);
         } else {
-            bytes.extend([0x03, (bytes.len() % 67) as u8]);
+            bytes.extend([0x03, (bytes.len() % PADDING_LANES) as u8]);
         }
     }
     bytes

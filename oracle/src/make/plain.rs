@@ -1,7 +1,13 @@
 //! Bytes and events that do not look at the state.
 
 use crate::event::{Blocks, Event};
+use crate::line::MOST_LANES;
 use crate::random::Random;
+
+/// The most lanes, as an event's byte says them.
+const MOST: u8 = MOST_LANES as u8;
+/// Lanes about 64 and about the most; the higher ones are lanes of few lines or of none.
+pub const EDGE_LANES: [u8; 9] = [62, 63, 64, 65, MOST - 2, MOST - 1, MOST, MOST + 1, 255];
 
 /// Random bytes, bare or behind an opening, or leaning to small numbers.
 pub fn random_bytes(random: &mut Random) -> Vec<u8> {
@@ -31,11 +37,11 @@ pub fn random_events(random: &mut Random) -> Vec<u8> {
     bytes
 }
 
-/// N of an accepted opening.
+/// N of an accepted opening: few lanes, about 64, about the most, and any number.
 pub fn good_lanes(random: &mut Random) -> u8 {
     match random.below(10) {
-        0 => random.between(1, 64) as u8,
-        _ => random.pick(&[1, 2, 2, 3, 3, 12, 63, 64, 64]),
+        0 | 1 => random.between(1, MOST_LANES as u64) as u8,
+        _ => random.pick(&[1, 2, 2, 2, 3, 3, 3, 12, 63, 64, 65, MOST - 1, MOST, MOST]),
     }
 }
 
@@ -55,7 +61,7 @@ pub fn good_open(random: &mut Random) -> Event {
 
 /// An opening that gets 6, 7 or both.
 pub fn refused_open(random: &mut Random) -> Event {
-    let bad_lanes = random.pick(&[0, 65, 66, 128, 255]);
+    let bad_lanes = random.pick(&[0, MOST + 1, MOST + 2, 255]);
     let bad_capacity = random.pick(&[0, 1, 7, 65_537, 65_544, 0x0100_0040, 0x8000_0000, u32::MAX]);
     match random.below(3) {
         0 => Event::Open { lanes: bad_lanes, capacity: good_capacity(random) },
@@ -66,8 +72,9 @@ pub fn refused_open(random: &mut Random) -> Event {
 
 fn some_lane(random: &mut Random) -> u8 {
     match random.below(8) {
-        0 => random.pick(&[11, 12, 62, 63, 64, 65, 255]),
-        1 => random.below(64) as u8,
+        0 if random.one_in(4) => random.pick(&[11, 12]),
+        0 => random.pick(&EDGE_LANES),
+        1 => random.below(MOST_LANES as u64) as u8,
         _ => random.below(3) as u8,
     }
 }

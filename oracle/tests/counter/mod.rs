@@ -35,9 +35,11 @@ pub enum Mistake {
     EmptySheetNotLookedAt,
     LongSheetNotLookedAt,
     FullSheetIsTooLong,
+    RowsFrom64NotLookedAt,
+    LanesFrom64NotCounted,
 }
 
-pub const MISTAKES: [Mistake; 24] = [
+pub const MISTAKES: [Mistake; 26] = [
     Mistake::TimesAtTheAnswer,
     Mistake::WakingReleaseLeftOut,
     Mistake::UnendedInTheSum,
@@ -62,6 +64,8 @@ pub const MISTAKES: [Mistake; 24] = [
     Mistake::EmptySheetNotLookedAt,
     Mistake::LongSheetNotLookedAt,
     Mistake::FullSheetIsTooLong,
+    Mistake::RowsFrom64NotLookedAt,
+    Mistake::LanesFrom64NotCounted,
 ];
 
 /// Which sheets of a group got 17, and the report as it was left.
@@ -137,6 +141,9 @@ impl Counter {
     }
 
     fn told_to_wait(&mut self, lane: usize) {
+        if lane >= 64 && self.is(Mistake::LanesFrom64NotCounted) {
+            return;
+        }
         let from = if self.is(Mistake::SecondWaitGoesOn) { self.last[lane] } else { 0 };
         self.waiting[lane] = Some(from);
         if self.is(Mistake::TimesAtTheAnswer) {
@@ -205,6 +212,7 @@ impl Counter {
         let last = MOST_LANES - 1;
         !(row == 0 && self.is(Mistake::FirstRowNotLookedAt)
             || row == last && self.is(Mistake::LastRowNotLookedAt)
+            || (64..=last).contains(&row) && self.is(Mistake::RowsFrom64NotLookedAt)
             || row == MOST_LANES && self.is(Mistake::RowForAllNotLookedAt))
     }
 
