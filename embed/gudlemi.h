@@ -29,8 +29,8 @@
  *
  * Stack, in bytes, at most; measured on the stored sheets by tests/embed, and bounded by no proof:
  *
- *     gudlemi_run            22000
- *     gudlemi_run_reported   24000
+ *     gudlemi_run            41000
+ *     gudlemi_run_reported   41000
  *     gudlemi_event_length     300
  *     gudlemi_event_refusal    300
  *     gudlemi_mean              16
@@ -38,7 +38,7 @@
  *     gudlemi_text_bound        16
  *     gudlemi_version           16
  *
- * Where the loader looks for memcpy and memset only when they are first called, a first gudlemi_run took 2,528 bytes
+ * Where the loader looks for memcpy and memset only when they are first called, a first gudlemi_run took 2,032 bytes
  * more. Much of a run's stack is for the report, which is handed on by value inside the library.
  */
 #ifndef GUDLEMI_H
@@ -56,10 +56,10 @@ extern "C" {
 #endif
 
 /* The version that this header is of: 10,000 for its first part, 100 for the second, 1 for the third. */
-#define GUDLEMI_VERSION 10200
+#define GUDLEMI_VERSION 20000
 
 /* The most lanes that a line can have, and the rows of a report that are for one lane each. */
-#define GUDLEMI_LANES 64
+#define GUDLEMI_LANES 128
 
 /* The most bytes of a sheet that is run; a longer one gets 17. */
 #define GUDLEMI_LONGEST_SHEET 65536
@@ -80,10 +80,13 @@ struct gudlemi_row {
     uint64_t unended; /* the waits that had not ended when their sheet's run did; they are in none of the other three */
 };
 
-/* The report of waiting: 2,080 bytes with no gap between them, each number in the machine's own order of bytes.
+/* The report of waiting: 4,128 bytes with no gap between them, each number in the machine's own order of bytes.
+ *
+ * Up to version 1.2.0 it had 64 rows and 2,080 bytes. The library cannot tell an old one: compile anew what lends it,
+ * and see that gudlemi_version() is GUDLEMI_VERSION.
  *
  * A report of all zeros is the one with no waiting, as memset or `= {0}` makes it. Lend one to the runs of any number
- * of sheets, one after the other: it then has the waits of all of them. The rows of `lane` are those of lanes 0 to 63,
+ * of sheets, one after the other: it then has the waits of all of them. The rows of `lane` are those of lanes 0 to 127,
  * whichever of them a sheet's line has. `all` is counted beside them and grows from its own values. */
 struct gudlemi_report {
     struct gudlemi_row lane[GUDLEMI_LANES];
@@ -102,7 +105,7 @@ struct gudlemi_report {
  * An empty sheet (sheet_length 0) prints `end 0 0` and leaves the book as it was.
  *
  * A short book: an opening whose capacity is above book_length is refused with 7, or with 6 where its lanes are not
- * 1 to 64 as well; so no opening is accepted where the book is empty (book_length 0). The run goes on; a later opening
+ * 1 to 128 as well; so no opening is accepted where the book is empty (book_length 0). The run goes on; a later opening
  * that fits is taken, and till then all other events are refused with 4. 65,536 bytes are enough for every opening.
  *
  * An accepted opening zeroes the first bytes of the book, as many as its capacity; the book need not be cleared

@@ -42,7 +42,7 @@ mod linked {
 }
 
 /// The most lanes that a line can have, and the rows of a report that are for one lane each.
-pub const LANES: usize = 64;
+pub const LANES: usize = 128;
 
 /// The most bytes of a sheet that is run; a longer one gets 17.
 pub const LONGEST_SHEET: usize = 65_536;

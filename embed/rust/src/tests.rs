@@ -103,8 +103,8 @@ fn empty_book_refuses_the_opening_with_7() {
 }
 
 #[test]
-fn empty_book_refuses_65_lanes_with_6() {
-    let text = run_to_string(&[1, 65, 0, 0, 0, 64], &mut []);
+fn empty_book_refuses_129_lanes_with_6() {
+    let text = run_to_string(&[1, 129, 0, 0, 0, 64], &mut []);
     assert_eq!(text.as_deref(), Some("0 refused 6\nend 0 0\n"));
 }
 

@@ -25,21 +25,21 @@ const ROUNDS: &[u8] = &[
     0x04, 0, 0, 0, // wakes none
 ];
 
-/// 64 lanes: lanes 0, 5 and 63 wait and are woken; lanes 0 and 63 then wait to the end.
+/// 128 lanes: lanes 0, 5 and 127 wait and are woken; lanes 0 and 127 then wait to the end.
 const EDGE_LANES: &[u8] = &[
-    0x01, 64, 0, 0, 0, 0x40, //
+    0x01, 128, 0, 0, 0, 0x40, //
     0x02, 5, 0, // lane 5 holds
     0x02, 0, 0, // lane 0 waits for two releases
-    0x02, 63, 0, // lane 63 waits for one
-    0x04, 5, 0, 0, // wakes lane 63
-    0x03, 63, //
-    0x04, 63, 0, 0, // wakes lane 0
+    0x02, 127, 0, // lane 127 waits for one
+    0x04, 5, 0, 0, // wakes lane 127
+    0x03, 127, //
+    0x04, 127, 0, 0, // wakes lane 0
     0x03, 0, //
     0x02, 5, 0, // lane 5 waits for one
     0x04, 0, 0, 0, // wakes lane 5
     0x03, 5, //
     0x02, 0, 0, // both wait
-    0x02, 63, 0, //
+    0x02, 127, 0, //
 ];
 
 fn row(times: u64, sum: u64, largest: u64, unended: u64) -> Row {
@@ -87,8 +87,8 @@ fn report_with(place: usize, field: usize, number: u64) -> Report {
 
 #[test]
 fn report_is_laid_out_as_the_library_has_it() {
-    assert_eq!((size_of::<Report>(), align_of::<Report>()), (2_080, 8));
-    assert_eq!((offset_of!(Report, lane), offset_of!(Report, all)), (0, 2_048));
+    assert_eq!((size_of::<Report>(), align_of::<Report>()), (4_128, 8));
+    assert_eq!((offset_of!(Report, lane), offset_of!(Report, all)), (0, 4_096));
     assert_eq!((size_of::<Row>(), align_of::<Row>()), (32, 8));
     assert_eq!((offset_of!(Row, times), offset_of!(Row, sum)), (0, 8));
     assert_eq!((offset_of!(Row, largest), offset_of!(Row, unended)), (16, 24));
@@ -129,8 +129,20 @@ fn wait_ends_at_the_wake_and_not_at_the_receive() {
 fn wait_not_ended_is_counted_apart() {
     let one = row(0, 0, 0, 1);
     assert_eq!(counted(&[&EXAMPLE[..12]]), report_of(&[(1, one)], one));
-    let lanes = [(0, row(1, 2, 2, 1)), (5, row(1, 1, 1, 0)), (63, row(1, 1, 1, 1))];
+    let lanes = [(0, row(1, 2, 2, 1)), (5, row(1, 1, 1, 0)), (127, row(1, 1, 1, 1))];
     assert_eq!(counted(&[EDGE_LANES]), report_of(&lanes, row(3, 4, 2, 2)));
+}
+
+#[test]
+fn longest_wait_is_127_releases() {
+    let mut sheet = vec![0x01, 128, 0, 0, 0, 0x40];
+    (0..128).for_each(|lane| sheet.extend([0x02, lane, 0]));
+    (0..126).for_each(|lane| sheet.extend([0x03, lane, 0x04, lane, 0, 0]));
+    assert_eq!(counted(&[&sheet]).lane[127], row(0, 0, 0, 1), "after 126 releases");
+    sheet.extend([0x03, 126, 0x04, 126, 0, 0]);
+    let report = counted(&[&sheet]);
+    assert_eq!(report.lane[127], row(1, 127, 127, 0), "after 127 releases");
+    assert_eq!(report.all, row(127, 127 * 128 / 2, 127, 0));
 }
 
 #[test]
@@ -189,7 +201,7 @@ fn every_number_one_below_grows_and_is_then_full() {
         for (field, more) in [row.times, row.sum, 0, row.unended].into_iter().enumerate() {
             let mut report = report_with(place, field, FULL - 1);
             let text = printed(EDGE_LANES, &mut report);
-            assert!(text.starts_with("0 open 64 64\n"), "{place} {field}");
+            assert!(text.starts_with("0 open 128 64\n"), "{place} {field}");
             let left = [report.lane[0], report.lane[LANES - 1], report.all][place];
             let number = [left.times, left.sum, left.largest, left.unended][field];
             assert_eq!(number, FULL - 1 + more, "{place} {field}");
