@@ -2,6 +2,7 @@
 
 use crate::made::{self, Random};
 use crate::proved::Report;
+use crate::sheets::MOST_LANES;
 use crate::timing::{Program, PROGRAMS};
 use crate::{inplace, proved, sheets};
 use std::collections::BTreeMap;
@@ -147,7 +148,7 @@ fn first_row(proved: &Report, inplace: &Report) -> String {
 }
 
 fn on_workloads(checked: &mut Checked, random: &mut Random) -> Result<(), String> {
-    for (name, sheet) in sheets::workloads(inplace::MOST_SHEET) {
+    for (name, sheet) in sheets::workloads(inplace::MOST_SHEET, MOST_LANES) {
         let in_sheet = |difference| format!("{name}: {difference}");
         let book = made::book(random, 65_536);
         checked.compare(&sheet, &book, &Report::default()).map_err(in_sheet)?;
@@ -176,7 +177,7 @@ fn on_uncountable(checked: &mut Checked, random: &mut Random) -> Result<(), Stri
     let book = made::book(random, 65_536);
     let report = made::report(random);
     for length in [65_535, 65_536, 65_537, 70_000] {
-        let mut sheet = sheets::shared_writes(length, 64);
+        let mut sheet = sheets::shared_writes(length, MOST_LANES);
         sheet.resize(length, 0x03); // to the byte; an event may be cut short
         checked
             .compare(&sheet, &book, &report)

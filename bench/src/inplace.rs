@@ -5,7 +5,7 @@
 //! A waiting lane keeps the number of releases before its wait, and its row of the lent report grows
 //! at the wake.
 
-use crate::proved::Report;
+use crate::proved::{Report, LANES};
 use crate::text::{least_room, Text};
 use crate::tiling::Tiling;
 use crate::waiting;
@@ -49,13 +49,13 @@ struct Line<'a, const PLAIN: bool> {
     capacity: u32,
     size: u32,
     pointer: u32,
-    flags: u64,
-    busy: u64,
+    flags: u128,
+    busy: u128,
     gathered: u32,
     gathered_total: u32,
     /// The accepted releases of the run.
     releases: u32,
-    phase: [Phase; 64],
+    phase: [Phase; LANES],
     tiling: Tiling,
     book: &'a mut [u8],
     text: Text<'a, PLAIN>,
@@ -83,7 +83,7 @@ impl<const PLAIN: bool> Line<'_, PLAIN> {
         if lane >= self.lanes {
             return Err(Refusal(if self.lanes == 0 { 4 } else { 8 }));
         }
-        Ok(lane as usize & 63)
+        Ok(lane as usize % LANES)
     }
 
     /// Whether a run of records from a place fits.
@@ -96,7 +96,7 @@ impl<const PLAIN: bool> Line<'_, PLAIN> {
         if self.lanes != 0 {
             return Err(Refusal(5));
         }
-        if !(1..=64).contains(&lanes) {
+        if !(1..=LANES).contains(&(lanes as usize)) {
             return Err(Refusal(6));
         }
         if !(8..=MOST_CAPACITY).contains(&capacity) || capacity as usize > self.book.len() {
@@ -303,7 +303,7 @@ impl<const PLAIN: bool> Line<'_, PLAIN> {
 
     /// Each gathered lane becomes a writer, from where those below it end.
     fn start_all(&mut self) {
-        for i in 0..self.lanes as usize & 127 {
+        for i in 0..LANES.min(self.lanes as usize) {
             let Phase::Gathered(count) = self.phase[i] else { unreachable!("all are in") };
             self.make_busy(i, count, Phase::Writing { left: count, next: self.pointer });
             self.pointer += count as u32;
@@ -427,7 +427,7 @@ fn unopened<'a, const PLAIN: bool>(
         gathered: 0,
         gathered_total: 0,
         releases: 0,
-        phase: [Phase::Idle; 64],
+        phase: [Phase::Idle; LANES],
         tiling: Tiling::plain(),
         book,
         text: Text::new(text),

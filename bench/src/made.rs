@@ -1,7 +1,7 @@
 //! Made-up sheets from a seed: random events that take no account of the state of the line. Books
 //! and reports to lend with them.
 
-use crate::proved::{Report, Row};
+use crate::proved::{Report, Row, LANES};
 
 /// Marsaglia's xorshift of 64 bits with a final product.
 pub struct Random(u64);
@@ -45,7 +45,7 @@ const OFTEN: [&[u8]; 5] = [
 ];
 
 fn setting(random: &mut Random) -> Setting {
-    let lanes = [1, 2, 2, 3, 3, 5, 12, 64][random.below(8) as usize];
+    let lanes = [1, 2, 2, 3, 3, 5, 12, 64, 65, 127, 128][random.below(11) as usize];
     let capacity = [8, 63, 64, 200, 4_096, 65_535, 65_536][random.below(7) as usize];
     Setting { lanes, capacity, often: OFTEN[random.below(5) as usize] }
 }
@@ -155,7 +155,7 @@ fn early(random: &mut Random, sheet: &mut Vec<u8>) {
         sheet.extend_from_slice(&[2, 0, 0]);
     }
     if random.one_in(4) {
-        let lanes = [0, 65, 255][random.below(3) as usize];
+        let lanes = [0, 129, 255][random.below(3) as usize];
         sheet.extend_from_slice(&[1, lanes, 0, 0, 0, 64]);
     }
     if random.one_in(4) {
@@ -226,8 +226,8 @@ pub fn report(random: &mut Random) -> Report {
 pub fn full_report(random: &mut Random) -> Report {
     let mut report = report(random);
     let number = 1 << 63 | if random.one_in(2) { 0 } else { random.next() };
-    let at = random.below(65) as usize;
-    let row = if at < 64 { &mut report.lane[at] } else { &mut report.all };
+    let at = random.below(LANES as u64 + 1) as usize;
+    let row = if at < LANES { &mut report.lane[at] } else { &mut report.all };
     match random.below(4) {
         0 => row.times = number,
         1 => row.sum = number,

@@ -11,6 +11,7 @@ mod tiling;
 mod timing;
 mod waiting;
 
+use sheets::MOST_LANES;
 use std::process::ExitCode;
 use timing::{Buffers, Measured};
 
@@ -32,9 +33,9 @@ fn print_row(name: &str, measured: &Measured) {
     println!("| {ratio:>5.2} | {plain:>12.2} | {plain_ratio:>5.2} | {samples:>7} |");
 }
 
-fn time_workloads(buffers: &mut Buffers) {
-    print_heading("workload, 64 KiB");
-    for (name, sheet) in sheets::workloads(LONGEST) {
+fn time_workloads(buffers: &mut Buffers, lanes: u8) {
+    print_heading(&format!("64 KiB, {lanes} lanes"));
+    for (name, sheet) in sheets::workloads(LONGEST, lanes) {
         print_row(name, &buffers.measure(&sheet));
     }
 }
@@ -42,14 +43,14 @@ fn time_workloads(buffers: &mut Buffers) {
 fn time_lengths(buffers: &mut Buffers) {
     print_heading("shared writes, by length");
     for length in [1_024, 8_192, LONGEST] {
-        let sheet = sheets::shared_writes(length, 64);
+        let sheet = sheets::shared_writes(length, MOST_LANES);
         print_row(&format!("{} KiB", length / 1_024), &buffers.measure(&sheet));
     }
 }
 
 fn time_lanes(buffers: &mut Buffers) {
     print_heading("shared writes, by lanes");
-    for lanes in [1, 12, 64] {
+    for lanes in [1, 12, 64, MOST_LANES] {
         let sheet = sheets::shared_writes(LONGEST, lanes);
         print_row(&format!("lanes: {lanes}"), &buffers.measure(&sheet));
     }
@@ -58,14 +59,14 @@ fn time_lanes(buffers: &mut Buffers) {
 fn time_blocks(buffers: &mut Buffers) {
     print_heading("shared writes, by blocks");
     for blocks in [1, 4, 8] {
-        let sheet = sheets::shared_writes_in_view(LONGEST, 64, blocks);
+        let sheet = sheets::shared_writes_in_view(LONGEST, MOST_LANES, blocks);
         print_row(&format!("blocks: {blocks}"), &buffers.measure(&sheet));
     }
 }
 
 fn time_distances(buffers: &mut Buffers) {
     print_heading("two lanes, by distance");
-    for distance in [1, 8, 32] {
+    for distance in [1, 8, 64, 127] {
         let sheet = sheets::distant_writes(LONGEST, distance);
         print_row(&format!("lanes apart: {distance}"), &buffers.measure(&sheet));
     }
@@ -89,7 +90,8 @@ fn time_all() {
     println!("Plain digits: the in-place program with its decimal digits divided out one by one.");
     println!("A ratio is the proved program's time over that of the column before it.");
     print_load();
-    time_workloads(&mut buffers);
+    time_workloads(&mut buffers, MOST_LANES);
+    time_workloads(&mut buffers, 64);
     time_lengths(&mut buffers);
     time_lanes(&mut buffers);
     time_blocks(&mut buffers);
@@ -136,7 +138,8 @@ fn check_and_time() -> ExitCode {
 /// One program alone, on one workload.
 fn drive(program: &str, times: &str, workload: &str) -> ExitCode {
     let program = timing::PROGRAMS.iter().find(|known| known.name == program);
-    let workload = sheets::workloads(LONGEST).into_iter().find(|(known, _)| *known == workload);
+    let workload =
+        sheets::workloads(LONGEST, MOST_LANES).into_iter().find(|(known, _)| *known == workload);
     let (Some(program), Ok(times), Some((_, sheet))) = (program, times.parse(), workload) else {
         return usage();
     };
@@ -149,7 +152,7 @@ fn usage() -> ExitCode {
     for program in timing::PROGRAMS {
         println!("program: {}", program.name);
     }
-    for (name, _) in sheets::workloads(LONGEST) {
+    for (name, _) in sheets::workloads(LONGEST, MOST_LANES) {
         println!("workload: {name}");
     }
     ExitCode::from(2)

@@ -1,6 +1,6 @@
 //! The proved run of a sheet over a lent report, by the safe functions over libembed.a.
 
-pub use gudlemi::{Report, Row};
+pub use gudlemi::{Report, Row, LANES};
 
 /// The printed lines of a sheet, stored at the start of `text`, and `report` grown; their length,
 /// or the greatest number where `text` may be too short.

@@ -1,5 +1,10 @@
 //! The workloads: sheets of events, each grown until its length is reached.
 
+use crate::proved::LANES;
+
+/// The lanes of the widest line.
+pub const MOST_LANES: u8 = LANES as u8;
+
 /// A sheet that takes whole events only and stops at its length.
 pub struct Sheet {
     bytes: Vec<u8>,
@@ -112,7 +117,7 @@ fn shared_rounds(sheet: &mut Sheet, lanes: u8) {
     }
 }
 
-/// (a) The sheet of Wish 14, for this version's lanes.
+/// (a) The sheet of Wish 14, for a line of so many lanes.
 pub fn shared_writes(length: usize, lanes: u8) -> Vec<u8> {
     let mut sheet = Sheet::new(length);
     sheet.open(lanes, 65_536);
@@ -129,11 +134,11 @@ pub fn shared_writes_in_view(length: usize, lanes: u8, blocks: u8) -> Vec<u8> {
     sheet.filled()
 }
 
-/// Two of 64 lanes, so many apart, want and write by turns: a release has that far to search.
+/// Two lanes of the widest line, so many apart, want and write by turns: a release has that far to search.
 pub fn distant_writes(length: usize, distance: u8) -> Vec<u8> {
     let mut sheet = Sheet::new(length);
     let mut number = 0;
-    sheet.open(64, 65_536);
+    sheet.open(MOST_LANES, 65_536);
     while !sheet.full {
         sheet.want(0, 0);
         sheet.want(distance, 0);
@@ -149,9 +154,9 @@ pub fn distant_writes(length: usize, distance: u8) -> Vec<u8> {
 
 /// (b) 512 records are written; then over and over all lanes want to read, each takes 8 and reads
 /// them, and the pointer goes back to 0.
-pub fn reads(length: usize) -> Vec<u8> {
+pub fn reads(length: usize, lanes: u8) -> Vec<u8> {
     let mut sheet = Sheet::new(length);
-    sheet.open(64, 65_536);
+    sheet.open(lanes, 65_536);
     sheet.want(0, 0);
     sheet.take(0, 512);
     for number in 0..512 {
@@ -159,10 +164,10 @@ pub fn reads(length: usize) -> Vec<u8> {
     }
     while !sheet.full {
         sheet.seek(0, 0);
-        for lane in 0..64 {
+        for lane in 0..lanes {
             sheet.want(lane, 1);
         }
-        for lane in 0..64 {
+        for lane in 0..lanes {
             sheet.receive(lane);
             sheet.take(lane, 8);
             for _ in 0..8 {
@@ -175,15 +180,15 @@ pub fn reads(length: usize) -> Vec<u8> {
 
 /// (c) All lanes want the whole book; each puts four records at scattered places, looks at four
 /// and frees it.
-pub fn whole_book(length: usize) -> Vec<u8> {
+pub fn whole_book(length: usize, lanes: u8) -> Vec<u8> {
     let mut sheet = Sheet::new(length);
     let mut number: u64 = 0;
-    sheet.open(64, 65_536);
+    sheet.open(lanes, 65_536);
     while !sheet.full {
-        for lane in 0..64 {
+        for lane in 0..lanes {
             sheet.want(lane, 2);
         }
-        for lane in 0..64 {
+        for lane in 0..lanes {
             sheet.receive(lane);
             for _ in 0..4 {
                 number += 1;
@@ -198,15 +203,15 @@ pub fn whole_book(length: usize) -> Vec<u8> {
 }
 
 /// (d) All lanes enter an ordered call with 1 record each, the last lane first, and write it.
-pub fn ordered_calls(length: usize) -> Vec<u8> {
+pub fn ordered_calls(length: usize, lanes: u8) -> Vec<u8> {
     let mut sheet = Sheet::new(length);
     let mut number = 0;
-    sheet.open(64, 65_536);
+    sheet.open(lanes, 65_536);
     while !sheet.full {
-        for lane in (0..64).rev() {
+        for lane in (0..lanes).rev() {
             sheet.enter(lane, 1);
         }
-        for lane in 0..64 {
+        for lane in 0..lanes {
             sheet.write(lane, record(number));
             number += 1;
         }
@@ -220,7 +225,7 @@ pub fn ordered_calls(length: usize) -> Vec<u8> {
 pub fn refusals(length: usize) -> Vec<u8> {
     let mut sheet = Sheet::new(length);
     sheet.want(0, 0); // 4
-    sheet.open(65, 64); // 6
+    sheet.open(MOST_LANES + 1, 64); // 6
     sheet.open(3, 7); // 7
     sheet.open(3, 65_536);
     while !sheet.full {
@@ -268,9 +273,9 @@ fn refused_line_calls(sheet: &mut Sheet) {
 }
 
 /// Seeks that are accepted, to rising places.
-pub fn seeks(length: usize) -> Vec<u8> {
+pub fn seeks(length: usize, lanes: u8) -> Vec<u8> {
     let mut sheet = Sheet::new(length);
-    sheet.open(64, 65_536);
+    sheet.open(lanes, 65_536);
     for place in 0.. {
         sheet.seek(0, place % 65_537);
         if sheet.full {
@@ -281,9 +286,9 @@ pub fn seeks(length: usize) -> Vec<u8> {
 }
 
 /// Changes of view that are accepted, with one block and with eight by turns.
-pub fn views(length: usize) -> Vec<u8> {
+pub fn views(length: usize, lanes: u8) -> Vec<u8> {
     let mut sheet = Sheet::new(length);
-    sheet.open(64, 65_536);
+    sheet.open(lanes, 65_536);
     while !sheet.full {
         sheet.view(1);
         sheet.view(8);
@@ -291,15 +296,15 @@ pub fn views(length: usize) -> Vec<u8> {
     sheet.filled()
 }
 
-/// Each workload at this length, with its name.
-pub fn workloads(length: usize) -> Vec<(&'static str, Vec<u8>)> {
+/// Each workload at this length on a line of so many lanes, with its name; refusals have three.
+pub fn workloads(length: usize, lanes: u8) -> Vec<(&'static str, Vec<u8>)> {
     vec![
-        ("shared writes", shared_writes(length, 64)),
-        ("reads", reads(length)),
-        ("whole book", whole_book(length)),
-        ("ordered calls", ordered_calls(length)),
+        ("shared writes", shared_writes(length, lanes)),
+        ("reads", reads(length, lanes)),
+        ("whole book", whole_book(length, lanes)),
+        ("ordered calls", ordered_calls(length, lanes)),
         ("refusals", refusals(length)),
-        ("seeks", seeks(length)),
-        ("views", views(length)),
+        ("seeks", seeks(length, lanes)),
+        ("views", views(length, lanes)),
     ]
 }

@@ -1,6 +1,7 @@
 //! The printed lines of the in-place program: words and numbers stored eight or sixteen bytes at
 //! a time into a lent buffer, without a test of the room at each of them.
 
+use crate::proved::LANES;
 use std::marker::PhantomData;
 
 /// The most bytes that one line takes and that a store may reach past its end, taken together.
@@ -30,7 +31,7 @@ impl Word {
         Word { bytes: u128::from_le_bytes(bytes), length: word.len() }
     }
 
-    /// The word, a number below 100 and a line end.
+    /// The word, a number and a line end.
     const fn with_number(word: &[u8], number: u8) -> Word {
         let mut bytes = [0; 16];
         let mut i = 0;
@@ -38,8 +39,12 @@ impl Word {
             bytes[i] = word[i];
             i += 1;
         }
+        if number > 99 {
+            bytes[i] = b'0' + number / 100;
+            i += 1;
+        }
         if number > 9 {
-            bytes[i] = b'0' + number / 10;
+            bytes[i] = b'0' + number / 10 % 10;
             i += 1;
         }
         bytes[i] = b'0' + number % 10;
@@ -60,10 +65,10 @@ static REFUSED: [Word; 18] = {
 };
 
 /// `wakes` and each lane.
-static WAKES: [Word; 64] = {
-    let mut words = [Word::with_number(b"wakes ", 0); 64];
+static WAKES: [Word; LANES] = {
+    let mut words = [Word::with_number(b"wakes ", 0); LANES];
     let mut lane = 0;
-    while lane < 64 {
+    while lane < LANES {
         words[lane] = Word::with_number(b"wakes ", lane as u8);
         lane += 1;
     }
@@ -292,7 +297,7 @@ impl<'a, const PLAIN: bool> Text<'a, PLAIN> {
     #[inline(always)]
     fn wakes(&mut self, woken: Option<usize>) {
         match woken {
-            Some(lane) => self.store16(WAKES[lane & 63]),
+            Some(lane) => self.store16(WAKES[lane % LANES]),
             None => self.store16(Word::new(b"wakes none\n")),
         }
     }

@@ -1,6 +1,6 @@
 //! The lent report of the in-place program: its rows grow where they stand, at each wake.
 
-use crate::proved::{Report, Row};
+use crate::proved::{Report, Row, LANES};
 
 /// The bit of the numbers that are 2^63 or more.
 const FULL: u64 = 1 << 63;
@@ -27,7 +27,7 @@ fn grow(row: &mut Row, releases: u64) {
 /// A wait of this lane has ended after so many releases.
 #[inline(always)]
 pub fn end_wait(report: &mut Report, lane: usize, releases: u32) {
-    grow(&mut report.lane[lane & 63], releases as u64);
+    grow(&mut report.lane[lane % LANES], releases as u64);
     grow(&mut report.all, releases as u64);
 }
 
