@@ -44,8 +44,8 @@ module _ (book : List ℕ) (early : List CallBytes) (told : CallBytes) (i : ℕ)
       W .sent (omega arith)
 
 pub longest-wait : LongestWaits
-longest-wait book early told i t =
+longest-wait =
     record {
-      lanes-less-one = enough book early told i t;
-      at-most-127 = λ later r. enough book early told i t later (omega (arith, few-lanes book (begun book early told i t)));
+      lanes-less-one = enough;
+      at-most-127 = λ book early told i t later r. enough book early told i t later (omega (arith, few-lanes book (begun book early told i t)));
     }

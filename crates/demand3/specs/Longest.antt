@@ -7,16 +7,20 @@ use Rattle.waitlist.specs.NextLane.{nextLane}
 use Rattle.trace.specs.Trace.{CallBytes, tellsToWait}
 use Rattle.demand3.specs.Claim.{entryAfter, lanesAfter, releases, wakesOf}
 
--- lane i was told to wait by the last of the calls `early`, and these accepted releases are enough: once so many follow, its wake was sent
+-- lane i was told to wait by the last of the calls `early`, and so many accepted releases are enough: once they follow, its wake was sent. It holds of
+-- every list that follows, and so of the one that ends with the last of these releases
 abbrev pub EnoughReleases : List ℕ → ℕ → List CallBytes → ℕ → Type 0
-EnoughReleases book i early most = (later : List CallBytes) → most ≤ releases nextLane book early later → 1 ≤ wakesOf nextLane book i early later
+EnoughReleases book i early enough = (later : List CallBytes) → enough ≤ releases nextLane book early later → 1 ≤ wakesOf nextLane book i early later
 
-pub record LongestWait (book : List ℕ) (early : List CallBytes) (told : CallBytes) (i : ℕ) : Type 0 where
+-- .. whenever a lane i is told to wait, by the answer to the call `told`
+abbrev pub AlwaysEnough : ℕ → Type 0
+AlwaysEnough enough =
+    (book : List ℕ) (early : List CallBytes) (told : CallBytes) (i : ℕ) → tellsToWait i (entryAfter nextLane book early told) ≡ true
+    → EnoughReleases book i (early ++ told ∷ []) enough
+
+pub record LongestWaits : Type 0 where
   -- of a line with N lanes
-  pub lanes-less-one : EnoughReleases book i (early ++ told ∷ []) (lanesAfter nextLane book (early ++ told ∷ []) - 1)
+  pub lanes-less-one : (book : List ℕ) (early : List CallBytes) (told : CallBytes) (i : ℕ) → tellsToWait i (entryAfter nextLane book early told) ≡ true
+      → EnoughReleases book i (early ++ told ∷ []) (lanesAfter nextLane book (early ++ told ∷ []) - 1)
   -- of every line
-  pub at-most-127 : EnoughReleases book i (early ++ told ∷ []) 127
-
--- whenever a lane i is told to wait, by the answer to the call `told`
-abbrev pub LongestWaits : Type 0
-LongestWaits = (book : List ℕ) (early : List CallBytes) (told : CallBytes) (i : ℕ) → tellsToWait i (entryAfter nextLane book early told) ≡ true → LongestWait book early told i
+  pub at-most-127 : AlwaysEnough 127

@@ -1,4 +1,4 @@
--- The edges of document 01 hold: computed from the definitions, and for N = 1 shown of every sound line.
+-- The edges of document 01 hold: computed from the definitions, and for N = 1, 64 and 128 shown of every sound line.
 use Prim.Native.Nat.{ℕ, zero, suc, _+_, _≤_, _<_}
 use mathlib.Core.Path.{_≡_, refl, sym, ap, _∙_}
 use mathlib.Core.Logic.{_≢_}
@@ -177,38 +177,38 @@ last-wakes-lane0 x n last e H first = release x n last (omega arith) H 0 (omega 
 lane5-wakes-lane4 : (x : State) (n : ℕ) → 5 < n → Holder x n 5 → Waits x 4 → ((j : ℕ) → Waits x j → j ≡ 4) → Release x 5 4
 lane5-wakes-lane4 x n h H waits4 only = release x n 5 h H 4 (omega arith) waits4 (λ a q. only a (up-waits x n 5 h H a (q .inside) (q .up)))
 
--- ---- what a list of events reaches, computed without the test for 1: it never applies there, and looks at each pair of entries
+-- ---- what a list of events reaches, computed without the test for 1: it never applies there, and compares each two lanes
 module _ (n : ℕ) (events : List Event) where
-  abbrev quick : State
-  quick = afterPast1 (fresh (replicate n 0)) (map given events)
+  abbrev reachedPast1 : State
+  reachedPast1 = afterPast1 (fresh (replicate n 0)) (map given events)
 
   reached-good : GoodState (reached n events)
   reached-good = calls-good (map given events) (fresh (replicate n 0)) (unopened-good (replicate n 0))
 
-  reached-quick : reached n events ≡ quick
-  reached-quick = after-past-1 (map given events) (fresh (replicate n 0)) (unopened-good (replicate n 0))
+  reached-reachedPast1 : reached n events ≡ reachedPast1
+  reached-reachedPast1 = after-past-1 (map given events) (fresh (replicate n 0)) (unopened-good (replicate n 0))
 
   reached-sound : isSound (reached n events) ≡ true
   reached-sound = let x = reached n events in sound-of (x .line) (length (x .book)) reached-good
 
-  call-quick : (c : Call) → step (reached n events) c ≡ stepPast1 quick c
-  call-quick c = step-past-1 (reached n events) reached-good c ∙ ap (λ (x : State). stepPast1 x c) reached-quick
+  call-reachedPast1 : (c : Call) → step (reached n events) c ≡ stepPast1 reachedPast1 c
+  call-reachedPast1 c = step-past-1 (reached n events) reached-good c ∙ ap (λ (x : State). stepPast1 x c) reached-reachedPast1
 
-  answer-quick : (c : Call) → step (reached n events) c .answer ≡ stepPast1 quick c .answer
-  answer-quick c = ap (λ (r : Result). r .answer) (call-quick c)
+  answer-reachedPast1 : (c : Call) → step (reached n events) c .answer ≡ stepPast1 reachedPast1 c .answer
+  answer-reachedPast1 c = ap (λ (r : Result). r .answer) (call-reachedPast1 c)
 
-  answer-each : (f : ℕ → Event) (ks : List ℕ) → map (λ (k : ℕ). answerTo (reached n events) (f k)) ks ≡ map (λ (k : ℕ). stepPast1 quick (given (f k)) .answer) ks
+  answer-each : (f : ℕ → Event) (ks : List ℕ) → map (λ (k : ℕ). answerTo (reached n events) (f k)) ks ≡ map (λ (k : ℕ). stepPast1 reachedPast1 (given (f k)) .answer) ks
   answer-each f [] = refl
-  answer-each f (k ∷ ks) = rw (answer-quick (given (f k)), answer-each f ks)
+  answer-each f (k ∷ ks) = rw (answer-reachedPast1 (given (f k)), answer-each f ks)
 
   -- more events after these
   module _ (more : List Event) where
-    answers-quick : answersTo (reached n events) more ≡ map (λ (r : Result). r .answer) (callsPast1 quick (map given more))
-    answers-quick =
-        ap (map (λ (r : Result). r .answer)) (calls-past-1 (map given more) (reached n events) reached-good ∙ ap (λ (x : State). callsPast1 x (map given more)) reached-quick)
+    answers-reachedPast1 : answersTo (reached n events) more ≡ map (λ (r : Result). r .answer) (callsPast1 reachedPast1 (map given more))
+    answers-reachedPast1 =
+        ap (map (λ (r : Result). r .answer)) (calls-past-1 (map given more) (reached n events) reached-good ∙ ap (λ (x : State). callsPast1 x (map given more)) reached-reachedPast1)
 
-    later-quick : afterEvents (reached n events) more ≡ afterPast1 quick (map given more)
-    later-quick = after-past-1 (map given more) (reached n events) reached-good ∙ ap (λ (x : State). afterPast1 x (map given more)) reached-quick
+    later-reachedPast1 : afterEvents (reached n events) more ≡ afterPast1 reachedPast1 (map given more)
+    later-reachedPast1 = after-past-1 (map given more) (reached n events) reached-good ∙ ap (λ (x : State). afterPast1 x (map given more)) reached-reachedPast1
 
     later-sound : isSound (afterEvents (reached n events) more) ≡ true
     later-sound = let x = afterEvents (reached n events) more in sound-of (x .line) (length (x .book)) (calls-good (map given more) (reached n events) reached-good)
@@ -216,17 +216,17 @@ module _ (n : ℕ) (events : List Event) where
 -- ---- N = 64 and N = 128: by computation, and of every line
 module _ (n last below : ℕ) where
   last-releases : last + 1 ≡ n
-      → phasesOf (quick 64 (lastBy n last below 0)) (0 ∷ below ∷ last ∷ [])
+      → phasesOf (reachedPast1 64 (lastBy n last below 0)) (0 ∷ below ∷ last ∷ [])
       ≡ Phase.Waiting Purpose.SharedWrite ∷ Phase.Waiting Purpose.WholeBook ∷ Phase.Holding Purpose.SharedWrite (place 0) ∷ []
-      → stepPast1 (quick 64 (lastBy n last below 0)) (given (Event.Take last 1)) .answer ≡ Answer.Region (place 0) 1 (Wakes.Lane 0)
-      → stepPast1 (quick 64 (lastBy n last below 2)) (given (Event.Free last)) .answer ≡ Answer.Freed (Wakes.Lane 0)
+      → stepPast1 (reachedPast1 64 (lastBy n last below 0)) (given (Event.Take last 1)) .answer ≡ Answer.Region (place 0) 1 (Wakes.Lane 0)
+      → stepPast1 (reachedPast1 64 (lastBy n last below 2)) (given (Event.Free last)) .answer ≡ Answer.Freed (Wakes.Lane 0)
       → LastReleases n last below
   last-releases e phases taken freed =
       record {
-        line = ap (λ (x : State). phasesOf x (0 ∷ below ∷ last ∷ [])) (reached-quick 64 (lastBy n last below 0)) ∙ phases;
+        line = ap (λ (x : State). phasesOf x (0 ∷ below ∷ last ∷ [])) (reached-reachedPast1 64 (lastBy n last below 0)) ∙ phases;
         sound = rw (reached-sound 64 (lastBy n last below 0), reached-sound 64 (lastBy n last below 2));
-        take = answer-quick 64 (lastBy n last below 0) (given (Event.Take last 1)) ∙ taken;
-        free = answer-quick 64 (lastBy n last below 2) (given (Event.Free last)) ∙ freed;
+        take = answer-reachedPast1 64 (lastBy n last below 0) (given (Event.Take last 1)) ∙ taken;
+        free = answer-reachedPast1 64 (lastBy n last below 2) (given (Event.Free last)) ∙ freed;
         every = λ x H waits0 waits-below. last-wakes-lane0 x n last e H waits0;
       }
 
@@ -239,16 +239,16 @@ unfolding blockRecord inOrder positionOf viewOk firstRaised nextLane started ste
 last-of-128 = last-releases 128 127 126 refl refl refl refl
 
 lane5-releases : (n : ℕ) → 5 < n
-    → phasesOf (quick 64 (lane5By n 0)) (4 ∷ 5 ∷ []) ≡ Phase.Waiting Purpose.SharedRead ∷ Phase.Holding Purpose.SharedWrite (place 0) ∷ []
-    → stepPast1 (quick 64 (lane5By n 0)) (given (Event.Take 5 1)) .answer ≡ Answer.Region (place 0) 1 (Wakes.Lane 4)
-    → stepPast1 (quick 64 (lane5By n 2)) (given (Event.Free 5)) .answer ≡ Answer.Freed (Wakes.Lane 4)
+    → phasesOf (reachedPast1 64 (lane5By n 0)) (4 ∷ 5 ∷ []) ≡ Phase.Waiting Purpose.SharedRead ∷ Phase.Holding Purpose.SharedWrite (place 0) ∷ []
+    → stepPast1 (reachedPast1 64 (lane5By n 0)) (given (Event.Take 5 1)) .answer ≡ Answer.Region (place 0) 1 (Wakes.Lane 4)
+    → stepPast1 (reachedPast1 64 (lane5By n 2)) (given (Event.Free 5)) .answer ≡ Answer.Freed (Wakes.Lane 4)
     → Lane5Releases n
 lane5-releases n h phases taken freed =
     record {
-      line = ap (λ (x : State). phasesOf x (4 ∷ 5 ∷ [])) (reached-quick 64 (lane5By n 0)) ∙ phases;
+      line = ap (λ (x : State). phasesOf x (4 ∷ 5 ∷ [])) (reached-reachedPast1 64 (lane5By n 0)) ∙ phases;
       sound = rw (reached-sound 64 (lane5By n 0), reached-sound 64 (lane5By n 2));
-      take = answer-quick 64 (lane5By n 0) (given (Event.Take 5 1)) ∙ taken;
-      free = answer-quick 64 (lane5By n 2) (given (Event.Free 5)) ∙ freed;
+      take = answer-reachedPast1 64 (lane5By n 0) (given (Event.Take 5 1)) ∙ taken;
+      free = answer-reachedPast1 64 (lane5By n 2) (given (Event.Free 5)) ∙ freed;
       every = λ x H waits4 only. lane5-wakes-lane4 x n h H waits4 only;
     }
 
@@ -262,20 +262,20 @@ lane5-of-128 = lane5-releases 128 (omega arith) refl refl refl
 
 -- ---- the ordered call, in each order of entry
 module _ (a b c : Event) where
-  abbrev inTurn : List Event
-  inTurn = a ∷ b ∷ c ∷ []
+  abbrev inThisOrder : List Event
+  inThisOrder = a ∷ b ∷ c ∷ []
 
   entered-in-order :
-      map (λ (r : Result). r .answer) (callsPast1 (quick 120 pointer10By) (map given inTurn)) ≡ Answer.Gathered ∷ Answer.Gathered ∷ Answer.Ordered (place 10) 5 ∷ []
-      → phasesOf (afterPast1 (quick 120 pointer10By) (map given inTurn)) (0 ∷ 1 ∷ 2 ∷ []) ≡ writers
-      → afterPast1 (quick 120 pointer10By) (map given inTurn) .line .pointer ≡ place 15
+      map (λ (r : Result). r .answer) (callsPast1 (reachedPast1 120 pointer10By) (map given inThisOrder)) ≡ Answer.Gathered ∷ Answer.Gathered ∷ Answer.Ordered (place 10) 5 ∷ []
+      → phasesOf (afterPast1 (reachedPast1 120 pointer10By) (map given inThisOrder)) (0 ∷ 1 ∷ 2 ∷ []) ≡ writers
+      → afterPast1 (reachedPast1 120 pointer10By) (map given inThisOrder) .line .pointer ≡ place 15
       → EnteredInOrder a b c
   entered-in-order answered phases pointer =
       record {
-        answers = answers-quick 120 pointer10By inTurn ∙ answered;
-        lanes = ap (λ (x : State). phasesOf x (0 ∷ 1 ∷ 2 ∷ [])) (later-quick 120 pointer10By inTurn) ∙ phases;
-        pointer = ap (λ (x : State). x .line .pointer) (later-quick 120 pointer10By inTurn) ∙ pointer;
-        sound = later-sound 120 pointer10By inTurn;
+        answers = answers-reachedPast1 120 pointer10By inThisOrder ∙ answered;
+        lanes = ap (λ (x : State). phasesOf x (0 ∷ 1 ∷ 2 ∷ [])) (later-reachedPast1 120 pointer10By inThisOrder) ∙ phases;
+        pointer = ap (λ (x : State). x .line .pointer) (later-reachedPast1 120 pointer10By inThisOrder) ∙ pointer;
+        sound = later-sound 120 pointer10By inThisOrder;
       }
 
 order-012 : EnteredInOrder enter0 enter1 enter2
@@ -304,7 +304,7 @@ order-210 = entered-in-order enter2 enter1 enter0 refl refl refl
 
 starts-at-10 : pointer10 .line .pointer .0 ≡ 10
 unfolding blockRecord inOrder viewOk stepPast1 afterPast1
-starts-at-10 = ap (λ (x : State). x .line .pointer .0) (reached-quick 120 pointer10By)
+starts-at-10 = ap (λ (x : State). x .line .pointer .0) (reached-reachedPast1 120 pointer10By)
 
 -- ---- the table
 pub starred-edges : StarredEdges
@@ -319,22 +319,22 @@ starred-edges =
       lane5-of-64 = lane5-of-64;
       lane5-of-128 = lane5-of-128;
       view-puts = λ content. answer-each 64 (viewedBy 2) (λ (k : ℕ). Event.Put 0 (place k) content) (0 ∷ 1 ∷ 2 ∷ 3 ∷ []);
-      view-writes = λ content. answers-quick 64 (viewedBy 0) (Event.Take 0 4 ∷ replicate 4 (Event.Write 0 content));
-      fit-64 = answer-quick 64 (plainBy 64) (given (Event.Take 0 8));
-      overfill-64 = answer-quick 64 (plainBy 64) (given (Event.Take 0 9));
-      fit-63 = answer-quick 63 (plainBy 63) (given (Event.Take 0 7));
-      overfill-63 = answer-quick 63 (plainBy 63) (given (Event.Take 0 8));
-      back-3 = answer-quick 64 pointer3By (given (Event.Seek 1 (minus 3)));
-      back-4 = answer-quick 64 pointer3By (given (Event.Seek 1 (minus 4)));
-      bytes-back-3 = answer-quick 64 pointer3By (callOf 0x0C (1 ∷ 0xFF ∷ 0xFF ∷ 0xFF ∷ 0xFD ∷ []));
-      bytes-back-4 = answer-quick 64 pointer3By (callOf 0x0C (1 ∷ 0xFF ∷ 0xFF ∷ 0xFF ∷ 0xFC ∷ []));
-      seek-most = answer-quick 64 pointer3By (given (Event.Seek 0 (pos 65536)));
-      seek-past = answer-quick 64 pointer3By (given (Event.Seek 0 (pos 65537)));
-      size-24 = ap (λ (x : State). x .line .size) (reached-quick 64 size24By);
-      seek-end = answer-quick 64 size24By (given (Event.Seek 2 (pos 0)));
-      pointer-end = ap (λ (r : Result). r .after .line .pointer) (call-quick 64 size24By (given (Event.Seek 2 (pos 0))));
-      view-10 = ap (λ (x : State). x .line .view) (reached-quick 120 pointer10By);
-      pointer-10 = ap (λ (x : State). x .line .pointer) (reached-quick 120 pointer10By);
+      view-writes = λ content. answers-reachedPast1 64 (viewedBy 0) (Event.Take 0 4 ∷ replicate 4 (Event.Write 0 content));
+      fit-64 = answer-reachedPast1 64 (plainBy 64) (given (Event.Take 0 8));
+      overfill-64 = answer-reachedPast1 64 (plainBy 64) (given (Event.Take 0 9));
+      fit-63 = answer-reachedPast1 63 (plainBy 63) (given (Event.Take 0 7));
+      overfill-63 = answer-reachedPast1 63 (plainBy 63) (given (Event.Take 0 8));
+      back-3 = answer-reachedPast1 64 pointer3By (given (Event.Seek 1 (minus 3)));
+      back-4 = answer-reachedPast1 64 pointer3By (given (Event.Seek 1 (minus 4)));
+      bytes-back-3 = answer-reachedPast1 64 pointer3By (callOf 0x0C (1 ∷ 0xFF ∷ 0xFF ∷ 0xFF ∷ 0xFD ∷ []));
+      bytes-back-4 = answer-reachedPast1 64 pointer3By (callOf 0x0C (1 ∷ 0xFF ∷ 0xFF ∷ 0xFF ∷ 0xFC ∷ []));
+      seek-most = answer-reachedPast1 64 pointer3By (given (Event.Seek 0 (pos 65536)));
+      seek-past = answer-reachedPast1 64 pointer3By (given (Event.Seek 0 (pos 65537)));
+      size-24 = ap (λ (x : State). x .line .size) (reached-reachedPast1 64 size24By);
+      seek-end = answer-reachedPast1 64 size24By (given (Event.Seek 2 (pos 0)));
+      pointer-end = ap (λ (r : Result). r .after .line .pointer) (call-reachedPast1 64 size24By (given (Event.Seek 2 (pos 0))));
+      view-10 = ap (λ (x : State). x .line .view) (reached-reachedPast1 120 pointer10By);
+      pointer-10 = ap (λ (x : State). x .line .pointer) (reached-reachedPast1 120 pointer10By);
       order-012 = order-012;
       order-021 = order-021;
       order-102 = order-102;

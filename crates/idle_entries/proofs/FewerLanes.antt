@@ -1,7 +1,7 @@
 -- A version with fewer lanes gave the same answers, but where an 01 with more lanes got 6.
 use Prim.Native.Nat.{ℕ, _+_, _-_, _≤_}
 use mathlib.Core.Path.{_≡_, refl, sym, ap, _∙_}
-use mathlib.Core.Bool.{Bool, true, false, and-true, cond, not, _&&_}
+use mathlib.Core.Bool.{Bool, true, false, and-true, not, _&&_}
 use mathlib.Core.List.{List, [], _∷_}
 use native.Mathlib.Omega.{arith}
 use lib.ListN.{length, length-replicate, replicate-append-replicate}
@@ -15,14 +15,14 @@ use Rattle.line.specs.Sound.{numbersOk, sound}
 use Rattle.waitlist.specs.NextLane.{nextLane}
 use Rattle.event.specs.Event.{Call, cutShort, given}
 use Rattle.event.specs.declared.Event.{Event}
-use Rattle.steps.specs.State.{Result, State, fresh}
+use Rattle.steps.specs.State.{State, fresh}
 use Rattle.steps.specs.Effects.{openStep}
 use Rattle.steps.specs.Refusals.{is, onEvent}
-use Rattle.steps.specs.Step.{afterBy, afterCalls, callEvent, calls, callsBy, refuse, step, stepBy}
+use Rattle.steps.specs.Step.{afterBy, callEvent, callsBy, refuse, step, stepBy}
 use Rattle.steps.proofs.Cases.{steps}
-use Rattle.steps.proofs.Chains.{open-chain, whenSound}
+use Rattle.steps.proofs.Chains.{open-chain, openBy}
 use Rattle.idle_entries.specs.Widened.{HasEntries, SameStep, Wider, widened}
-use Rattle.idle_entries.specs.FewerLanes.{KeepsAnswers, openWithin, refusedWider, afterWithin, answersOf, callsWithin, freshWithin, got6, lineWithin, noneWider, opensWider, stepWithin}
+use Rattle.idle_entries.specs.FewerLanes.{KeepsAnswers, SameAnswers, openWithin, refusedAbove, afterWithin, callsWithin, freshWithin, got6, lineWithin, noneAbove, opensAbove, stepWithin}
 use Rattle.idle_entries.proofs.Steps.{entries-do-not-show}
 use Rattle.steps.proofs.Lanes.{LanesAfter, lanes-after, opening, stay}
 use Rattle.idle_entries.proofs.Lists.{same-trans, wider-self}
@@ -59,12 +59,7 @@ module _ (most : ℕ) (x : State) (fewer : x .line .lanes ≤ most) where
   other-same e h = rw (le-leb (x .line .lanes) most fewer, and-true (sound (x .line) (length (x .book))), h)
 
   -- 01 in that version
-  opens-within : (lanes capacity : ℕ)
-      → stepWithin most x (given (Event.Open lanes capacity))
-      ≡ whenSound x
-      (cond (not (eqb (x .line .lanes) 0)) (refuse 5 x)
-      (cond (not (leb 1 lanes && leb lanes most)) (refuse 6 x)
-      (cond (not (leb leastCapacity capacity && leb capacity mostCapacity && leb capacity (length (x .book)))) (refuse 7 x) (openWithin most x lanes capacity))))
+  opens-within : (lanes capacity : ℕ) → stepWithin most x (given (Event.Open lanes capacity)) ≡ openBy x lanes capacity most (openWithin most x lanes capacity)
   unfolding stepWithin
   opens-within lanes capacity = rw (le-leb (x .line .lanes) most fewer, and-true (sound (x .line) (length (x .book))))
 
@@ -124,24 +119,16 @@ module _ (most : ℕ) (few : most ≤ mostLanes) where
     kept c e (stay n) h = record { same = rw e (entries-do-not-show x x (wider-self x E) c); fewer = rw (e, n) fewer }
     kept c e (opening lanes capacity q z) h = both (ap opensAny q) h
 
-    open-same : (lanes capacity : ℕ) → refusedWider most x (given (Event.Open lanes capacity)) ≡ false → VersionsSame x (given (Event.Open lanes capacity))
+    open-same : (lanes capacity : ℕ) → refusedAbove most x (given (Event.Open lanes capacity)) ≡ false → VersionsSame x (given (Event.Open lanes capacity))
     open-same lanes capacity free = record { same = rw (new, old) (chains .0); fewer = rw old (chains .1) }
       where
-        -- an opening by its tests, with the limit on the lanes and the step where all pass
-        opens-by : ℕ → Result → Result
-        opens-by limit r =
-            whenSound x
-            (cond (not (eqb (x .line .lanes) 0)) (refuse 5 x)
-            (cond (not (leb 1 lanes && leb lanes limit)) (refuse 6 x)
-            (cond (not (leb leastCapacity capacity && leb capacity mostCapacity && leb capacity (length (x .book)))) (refuse 7 x) r)))
-
-        new : callEvent x (Event.Open lanes capacity) ≡ opens-by mostLanes (openStep x lanes capacity)
+        new : callEvent x (Event.Open lanes capacity) ≡ openBy x lanes capacity mostLanes (openStep x lanes capacity)
         new = open-chain nextLane x lanes capacity
 
-        old : stepWithin most x (given (Event.Open lanes capacity)) ≡ opens-by most (openWithin most x lanes capacity)
+        old : stepWithin most x (given (Event.Open lanes capacity)) ≡ openBy x lanes capacity most (openWithin most x lanes capacity)
         old = opens-within most x fewer lanes capacity
 
-        free-old : opensWider most (given (Event.Open lanes capacity)) && got6 (opens-by most (openWithin most x lanes capacity) .answer) ≡ false
+        free-old : opensAbove most (given (Event.Open lanes capacity)) && got6 (openBy x lanes capacity most (openWithin most x lanes capacity) .answer) ≡ false
         free-old = rw old at free
 
         refused : (k : ℕ) → SameStep (refuse k x) (refuse k x) × (x .line .lanes ≤ most)
@@ -151,8 +138,8 @@ module _ (most : ℕ) (few : most ≤ mostLanes) where
         and-one b e = sym (and-true b) ∙ e
 
         chains :
-            SameStep (opens-by mostLanes (openStep x lanes capacity)) (opens-by most (openWithin most x lanes capacity))
-            × (opens-by most (openWithin most x lanes capacity) .after .line .lanes ≤ most)
+            SameStep (openBy x lanes capacity mostLanes (openStep x lanes capacity)) (openBy x lanes capacity most (openWithin most x lanes capacity))
+            × (openBy x lanes capacity most (openWithin most x lanes capacity) .after .line .lanes ≤ most)
         chains =
             by-test (sound (x .line) (length (x .book)))
             (λ s. by-test (eqb (x .line .lanes) 0)
@@ -165,10 +152,10 @@ module _ (most : ℕ) (few : most ≤ mostLanes) where
             (λ u. rw (s, u) (refused 5)))
             (λ s. rw s (refused 1))
 
-    versions-same : (c : Call) → refusedWider most x c ≡ false → VersionsSame x c
+    versions-same : (c : Call) → refusedAbove most x c ≡ false → VersionsSame x c
     versions-same cutShort f = kept cutShort (cut-same most x fewer) (lanes-after nextLane x cutShort (steps nextLane x cutShort)) refl
     versions-same (given e) f =
-        by-open (λ (g : Event). refusedWider most x (given g) ≡ false → VersionsSame x (given g)) open-same
+        by-open (λ (g : Event). refusedAbove most x (given g) ≡ false → VersionsSame x (given g)) open-same
         (λ g h f. kept (given g) (other-same most x fewer g h) (lanes-after nextLane x (given g) (steps nextLane x (given g))) h) e f
 
   -- on this version's line, and on that version's
@@ -176,20 +163,15 @@ module _ (most : ℕ) (few : most ≤ mostLanes) where
   same-version y x W c S = same-trans (step y c) (step x c) (stepWithin most x c) (entries-do-not-show y x W c) S
 
   -- a list of calls of which none is left out
-  free-now : (c : Call) (cs : List Call) (x : State) → noneWider most x (c ∷ cs) ≡ true → refusedWider most x c ≡ false
-  unfolding noneWider
-  free-now c cs x n = not-true (refusedWider most x c) (and-left (not (refusedWider most x c)) (noneWider most (stepWithin most x c .after) cs) n)
+  free-now : (c : Call) (cs : List Call) (x : State) → noneAbove most x (c ∷ cs) ≡ true → refusedAbove most x c ≡ false
+  unfolding noneAbove
+  free-now c cs x n = not-true (refusedAbove most x c) (and-left (not (refusedAbove most x c)) (noneAbove most (stepWithin most x c .after) cs) n)
 
-  free-later : (c : Call) (cs : List Call) (x : State) → noneWider most x (c ∷ cs) ≡ true → noneWider most (stepWithin most x c .after) cs ≡ true
-  unfolding noneWider
-  free-later c cs x n = and-right (not (refusedWider most x c)) (noneWider most (stepWithin most x c .after) cs) n
+  free-later : (c : Call) (cs : List Call) (x : State) → noneAbove most x (c ∷ cs) ≡ true → noneAbove most (stepWithin most x c .after) cs ≡ true
+  unfolding noneAbove
+  free-later c cs x n = and-right (not (refusedAbove most x c)) (noneAbove most (stepWithin most x c .after) cs) n
 
-  -- the two lists, from lines that are one but for idle entries
-  pub record ListsSame (cs : List Call) (y x : State) : Type 0 where
-    pub answers : answersOf (calls y cs) ≡ answersOf (callsWithin most x cs)
-    pub after : Wider (afterCalls y cs) (afterWithin most x cs)
-
-  lists-same : (cs : List Call) (y x : State) → Wider y x → x .line .lanes ≤ most → noneWider most x cs ≡ true → ListsSame cs y x
+  lists-same : (cs : List Call) (y x : State) → Wider y x → x .line .lanes ≤ most → noneAbove most x cs ≡ true → SameAnswers most y x cs
   unfolding callsBy callsWithin afterBy afterWithin
   lists-same [] y x W fewer n = record { answers = refl; after = W }
   lists-same (c ∷ cs) y x W fewer n =
@@ -200,6 +182,4 @@ module _ (most : ℕ) (few : most ≤ mostLanes) where
 
 -- "stored sheets keep .. their answers too unless an 01 with 65 to 128 lanes got 6 in them"
 pub keeps-answers : KeepsAnswers
-keeps-answers most few book cs n =
-    let all = lists-same most few cs (fresh book) (freshWithin most book) (wider-state most few 0 0 book (omega arith)) (omega arith) n in
-    record { answers = all .answers; after = all .after }
+keeps-answers most few book cs n = lists-same most few cs (fresh book) (freshWithin most book) (wider-state most few 0 0 book (omega arith)) (omega arith) n

@@ -1,5 +1,4 @@
 -- Idle entries past a line's lanes do not show.
-pub mod Tails
 pub mod SoundLine
 pub mod Steps
 pub mod Lists

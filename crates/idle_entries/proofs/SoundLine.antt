@@ -1,21 +1,17 @@
 -- A line with more idle entries is sound exactly where it was sound without them.
 use Prim.Native.Nat.{ℕ, _≤_}
 use mathlib.Core.Path.{_≡_, refl, ap}
-use mathlib.Core.Bool.{true, and-false}
 use native.Mathlib.Omega.{arith}
 use lib.ListN.{length, drop, replicate}
 use lib.Seq.{drop-append-le}
 use lib.Dec.{eqb}
 use Rattle.line.specs.declared.Lane.{Lane}
 use Rattle.line.specs.declared.Line.{Line}
-use Rattle.line.specs.Line.{countIn, flagFor, hasTurn, idleLane, isBusy, isGathered, isIdle, isIdleOrGathered, on, phaseAt}
+use Rattle.line.specs.Line.{countIn, flagFor, hasTurn, idleLane, isGathered, isIdle, isIdleOrGathered, on, phaseAt}
 use Rattle.line.specs.Sound.{apartLanes, busyOk, flagsOk, gatheredOk, pastOk, regionOk, sound, turnOk, valueOk}
+use Rattle.line.proofs.Phases.{apart-idle}
 use Rattle.idle_entries.specs.Widened.{HasEntries, widened}
-use Rattle.idle_entries.proofs.Tails.{all-tail, count-tail, getD-tail, pairwise-tail, same-tail, some-tail, sum-tail}
-
--- an idle lane has no region
-apart-idle : (a : Lane) → apartLanes a idleLane ≡ true
-apart-idle a = rw (and-false (isBusy (a .phase)))
+use Rattle.lists.proofs.Tails.{all-tail, count-tail, getD-tail, pairwise-tail, same-tail, some-tail, sum-tail}
 
 module _ (more : ℕ) (l : Line) where
   pub phase-same : (i : ℕ) → phaseAt (widened more l) i ≡ phaseAt l i
@@ -31,7 +27,7 @@ module _ (more : ℕ) (l : Line) where
       (some-tail idleLane more (on isGathered) refl (l .lane), all-tail idleLane more (on isIdleOrGathered) refl (l .lane), count-tail idleLane more (on isGathered) refl (l .lane), sum-tail idleLane more (on countIn) refl (l .lane))
 
   busy-same : busyOk (widened more l) ≡ busyOk l
-  busy-same = rw (all-tail idleLane more (on (regionOk l)) refl (l .lane), pairwise-tail idleLane more apartLanes apart-idle (l .lane))
+  busy-same = rw (all-tail idleLane more (on (regionOk l)) refl (l .lane), pairwise-tail idleLane more apartLanes (λ a. apart-idle (a .phase)) (l .lane))
 
   module _ (E : HasEntries l) where
     flags-same : flagsOk (widened more l) ≡ flagsOk l

@@ -21,7 +21,7 @@ use Rattle.line.specs.Line.{countIn, holdsShared, holdsWhole, idleLane, isGathe
 use Rattle.line.specs.Sound.{gatheredTotal, sound}
 use Rattle.waitlist.specs.NextLane.{firstRaised, nextLane}
 use Rattle.waitlist.specs.declared.Wakes.{Wakes}
-use Rattle.waitlist.proofs.Nearest.{first-found}
+use Rattle.waitlist.proofs.Laws.{next-below}
 use Rattle.event.specs.Event.{Call, cutShort, given}
 use Rattle.event.specs.declared.Event.{Event}
 use Rattle.steps.specs.State.{Result, State, leaves, withLanes, withPhase}
@@ -29,23 +29,13 @@ use Rattle.steps.specs.Effects.{allEntered, bookWith, busyFor, entered, enterSt
 use Rattle.steps.specs.Refusals.{isOutside}
 use Rattle.steps.specs.Step.{callEvent, refuse, step}
 use Rattle.steps.specs.declared.Answer.{Answer}
+use Rattle.steps.proofs.Ordered.{started-length}
 use Rattle.steps.proofs.Chains.{atLane, cut-chain, enter-chain, free-chain, look-chain, open-chain, put-chain, read-chain, receive-chain, seek-chain, take-chain, unlisted-chain, view-chain, want-chain, whenOpen, whenSound, write-chain}
 use Rattle.idle_entries.specs.Widened.{EntriesDoNotShow, HasEntries, SameStep, widened}
-use Rattle.idle_entries.proofs.Tails.{all-tail, count-tail, getD-tail, some-tail, sum-tail}
+use Rattle.lists.proofs.Tails.{all-tail, count-tail, getD-tail, some-tail, sum-tail}
 use Rattle.idle_entries.proofs.SoundLine.{phase-same, sound-same}
 
 -- ---- the search
-pub next-inside : (n : ℕ) (f : List ℕ) (h w : ℕ) → nextLane n f h ≡ Wakes.Lane w → w < n
-unfolding nextLane
-next-inside n f h w e = go (firstRaised f (h + 1) (n - (h + 1))) refl
-  where
-    go : (o : Wakes) → firstRaised f (h + 1) (n - (h + 1)) ≡ o → w < n
-    go Wakes.None t = let r = first-found f 0 n w (rw t at e) in omega (arith, r .high)
-    go (Wakes.Lane j) t =
-        let e' : Wakes.Lane j ≡ Wakes.Lane w = rw t at e in
-        let q : j ≡ w = cc in
-        let r = first-found f (h + 1) (n - (h + 1)) w (rw q at t) in omega (arith, r .low, r .high)
-
 first-same : (more : ℕ) (f : List ℕ) (i count : ℕ) → firstRaised (f ++ replicate more 0) i count ≡ firstRaised f i count
 unfolding firstRaised
 first-same more f i zero = refl
@@ -88,7 +78,7 @@ released-same more l E i = rw (next-same more (l .lanes) (l .flag) i) (go (nextO
   where
     go : (w : Wakes) → nextOf nextLane l i ≡ w → wake (widened more l) w ≡ widened more (wake l w)
     go Wakes.None e = refl
-    go (Wakes.Lane w) e = rw (phase-same more l w) (phase-set more l E w (next-inside (l .lanes) (l .flag) i w e) (woken (l .pointer) (phaseAt l w)))
+    go (Wakes.Lane w) e = rw (phase-same more l w) (phase-set more l E w (next-below (l .lanes) (l .flag) i w e) (woken (l .pointer) (phaseAt l w)))
 
 released-kept : (l : Line) → HasEntries l → (i : ℕ) → HasEntries (released nextLane l i)
 released-kept l E i = go (nextOf nextLane l i)
@@ -106,11 +96,6 @@ started-same more k [] = idle more k
     idle zero k = refl
     idle (suc n) k = ap (λ (ls : List Lane). idleLane ∷ ls) (idle n (k + 0))
 started-same more k (a ∷ ls) = rw (started-same more (k + countIn (a .phase)) ls)
-
-started-length : (k : ℕ) (ls : List Lane) → length (started k ls) ≡ length ls
-unfolding started
-started-length k [] = refl
-started-length k (a ∷ ls) = rw (started-length (k + countIn (a .phase)) ls)
 
 seek-same : (more : ℕ) (l : Line) (whence : ℕ) → seekBase (widened more l) whence ≡ seekBase l whence
 seek-same more l zero = refl

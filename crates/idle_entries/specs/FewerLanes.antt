@@ -1,5 +1,5 @@
 -- Wish 2, "By this wish stored sheets keep their bytes, and their answers too unless an 01 with 65 to 128 lanes got 6 in them": the steps of a
--- version in which the lanes of 01 are 1 to `most` and a line has so many entries, and the claim that these keep their answers.
+-- version that takes at most `most` lanes, 64 for the one before, and the claim. A sheet is a list of calls (demand3/Sheets: sound-run-is-list).
 use Prim.Native.Nat.{ℕ, _≤_}
 use mathlib.Core.Path.{_≡_}
 use mathlib.Core.Bool.{Bool, true, cond, not, _&&_}
@@ -23,10 +23,11 @@ use Rattle.steps.specs.declared.Answer.{Answer}
 use Rattle.idle_entries.specs.Widened.{Wider}
 
 -- ---- a step of that version: this one's, with `most` for the most lanes wherever that number stands
--- "N .. in range", and "6. The lanes of 01 are not 1 to 64"
+-- "1. The line handed in is not sound": N is in range up to `most`; `sound` has this version's number, which is not below it
 abbrev pub notSoundWithin : ℕ → Reason
 notSoundWithin most = record { number = 1; applies = λ x c. not (sound (x .line) (length (x .book)) && leb (x .line .lanes) most) }
 
+-- "6. The lanes of 01 are not 1 to 64"
 abbrev pub lanesOutsideOf : ℕ → Reason
 lanesOutsideOf most = reason 6 (λ x e. is 0x01 e && not (leb 1 (field 0 e) && leb (field 0 e) most))
 
@@ -69,29 +70,31 @@ afterWithin most x [] = x
 afterWithin most x (c ∷ cs) = afterWithin most (stepWithin most x c .after) cs
 
 -- "an 01 with 65 to 128 lanes": more than `most`, and not more than this version takes
-abbrev pub opensWider : ℕ → Call → Bool
-opensWider most c = onEvent (λ (e : Event). is 0x01 e && (ltb most (field 0 e) && leb (field 0 e) mostLanes)) c
+abbrev pub opensAbove : ℕ → Call → Bool
+opensAbove most c = onEvent (λ (e : Event). is 0x01 e && (ltb most (field 0 e) && leb (field 0 e) mostLanes)) c
 
 -- ".. got 6"
 abbrev pub got6 : Answer → Bool
 got6 a = not (saidBy a .accepted) && eqb (saidBy a .number) 6
 
 -- the call is such an 01 and got 6 in that version
-abbrev pub refusedWider : ℕ → State → Call → Bool
-refusedWider most x c = opensWider most c && got6 (stepWithin most x c .answer)
+abbrev pub refusedAbove : ℕ → State → Call → Bool
+refusedAbove most x c = opensAbove most c && got6 (stepWithin most x c .answer)
 
 -- no call of the list is
-unfoldable pub noneWider : ℕ → State → List Call → Bool
-noneWider most x [] = true
-noneWider most x (c ∷ cs) = not (refusedWider most x c) && noneWider most (stepWithin most x c .after) cs
+unfoldable pub noneAbove : ℕ → State → List Call → Bool
+noneAbove most x [] = true
+noneAbove most x (c ∷ cs) = not (refusedAbove most x c) && noneAbove most (stepWithin most x c .after) cs
 
 abbrev pub answersOf : List Result → List Answer
 answersOf rs = map (λ (r : Result). r .answer) rs
 
 -- the answers are the same, and so are at the end the book and all of the line but for idle entries
-pub record SameAnswers (most : ℕ) (book : List ℕ) (cs : List Call) : Type 0 where
-  pub answers : answersOf (calls (fresh book) cs) ≡ answersOf (callsWithin most (freshWithin most book) cs)
-  pub after : Wider (afterCalls (fresh book) cs) (afterWithin most (freshWithin most book) cs)
+pub record SameAnswers (most : ℕ) (wide narrow : State) (cs : List Call) : Type 0 where
+  pub answers : answersOf (calls wide cs) ≡ answersOf (callsWithin most narrow cs)
+  pub after : Wider (afterCalls wide cs) (afterWithin most narrow cs)
 
 abbrev pub KeepsAnswers : Type 0
-KeepsAnswers = (most : ℕ) → most ≤ mostLanes → (book : List ℕ) (cs : List Call) → noneWider most (freshWithin most book) cs ≡ true → SameAnswers most book cs
+KeepsAnswers =
+    (most : ℕ) → most ≤ mostLanes → (book : List ℕ) (cs : List Call) → noneAbove most (freshWithin most book) cs ≡ true
+    → SameAnswers most (fresh book) (freshWithin most book) cs

@@ -31,6 +31,7 @@ use Rattle.steps.specs.Meets.{stateOf}
 use Rattle.steps.specs.State.{State, leaves, withLanes, withPhase}
 use Rattle.steps.specs.Step.{callEvent}
 use Rattle.steps.specs.declared.Answer.{Answer}
+use Rattle.steps.proofs.Ordered.{started-length}
 use Rattle.changes.specs.Change.{countsAfter, entryOf, missingLane, seenOf}
 use Rattle.changes.specs.declared.Change.{Change}
 use Rattle.changes.specs.declared.Seen.{Seen}
@@ -78,11 +79,6 @@ lane-named i d (LaneCall.Look k) = refl
 lane-named i d LaneCall.Free = refl
 
 -- starting the lanes keeps the arrays' lengths
-started-length : (k : ℕ) (ls : List Lane) → length (started k ls) ≡ length ls
-unfolding started
-started-length k [] = refl
-started-length k (x ∷ xs) = rw (started-length _ xs)
-
 started-shaped : (l : Line) (k : ℕ) → Shaped l → Shaped (withLanes l (started k (l .lane)))
 started-shaped l k s = record { lanes-length = started-length k (l .lane) ∙ s .lanes-length; flags-length = s .flags-length; blocks-length = s .blocks-length }
 

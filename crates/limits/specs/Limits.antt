@@ -1,7 +1,7 @@
 -- The numbers that document 01 sets as limits, each in one place of the definitions.
 use Prim.Native.Nat.{ℕ}
 
--- "The lanes of 01 become 1 to 128" (Wish 2; 64 before); the code's array lengths are held to this number by the contract of `Line::unopened`
+-- "N is 1 to 64", with Wish 2 "1 to 128"; the code's array lengths are held to this number by the contract of `Line::unopened`
 abbrev pub mostLanes : ℕ
 mostLanes = 128
 

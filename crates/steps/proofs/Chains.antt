@@ -29,14 +29,17 @@ whenOpen x r = whenSound x (cond (eqb (x .line .lanes) 0) (refuse 4 x) r)
 abbrev pub atLane : State → ℕ → Result → Result
 atLane x i r = whenOpen x (cond (leb (x .line .lanes) i) (refuse 8 x) r)
 
+-- 01, with the most lanes that it takes
+abbrev pub openBy : State → ℕ → ℕ → ℕ → Result → Result
+openBy x lanes capacity most r =
+    whenSound x
+    (cond (not (eqb (x .line .lanes) 0)) (refuse 5 x)
+    (cond (not (leb 1 lanes && leb lanes most)) (refuse 6 x)
+    (cond (not (leb leastCapacity capacity && leb capacity mostCapacity && leb capacity (length (x .book)))) (refuse 7 x) r)))
+
 module _ (search : Search) (x : State) where
   -- 01: 5 6 7
-  pub open-chain : (lanes capacity : ℕ)
-      → stepBy search x (given (Event.Open lanes capacity))
-      ≡ whenSound x
-      (cond (not (eqb (x .line .lanes) 0)) (refuse 5 x)
-      (cond (not (leb 1 lanes && leb lanes mostLanes)) (refuse 6 x)
-      (cond (not (leb leastCapacity capacity && leb capacity mostCapacity && leb capacity (length (x .book)))) (refuse 7 x) (openStep x lanes capacity))))
+  pub open-chain : (lanes capacity : ℕ) → stepBy search x (given (Event.Open lanes capacity)) ≡ openBy x lanes capacity mostLanes (openStep x lanes capacity)
   unfolding stepBy
   open-chain lanes capacity = refl
 

@@ -62,6 +62,11 @@ ready-start : (k : ℕ) (y : Phase) → isIdleOrGathered y ≡ true → startedA
 ready-start k y e =
     by-test (isGathered y) (λ g. rw g) (λ g. rw (idle-is y (rw (g, or-false (isIdle y)) at e)))
 
+pub started-length : (k : ℕ) (ls : List Lane) → length (started k ls) ≡ length ls
+unfolding started
+started-length k [] = refl
+started-length k (x ∷ xs) = rw (started-length (k + countIn (x .phase)) xs)
+
 pub started-starts : (k : ℕ) (ls : List Lane) → allPass (on isIdleOrGathered) ls ≡ true → started k ls ≡ starts k ls
 unfolding started starts
 started-starts k [] e = refl

@@ -1,6 +1,6 @@
--- Lists of calls to try demand 3 on, by trials/Trials: long-not-yet, long-woken, mixed-places, mixed-lanes, and, for a search from lane 0, from-zero-fails.
+-- Lists of calls to try demand 3 on, by trials/Trials: long-told, long-not-yet, long-woken, within-126-fails, mixed-places, mixed-lanes, and, for a search from lane 0, from-zero-fails.
 use Prim.Native.Nat.{ℕ, zero, suc, _+_}
-use mathlib.Core.List.{List, [], _∷_}
+use mathlib.Core.List.{List, [], _∷_, _++_}
 use lib.ListN.{replicate}
 use Rattle.waitlist.specs.NextLane.{firstRaised}
 use Rattle.waitlist.specs.declared.Wakes.{Wakes}
@@ -30,7 +30,7 @@ entering lane count = call 0x0A (lane ∷ 0 ∷ count ∷ [])
 abbrev pub book64 : List ℕ
 book64 = replicate 64 255
 
--- ---- the longest wait of n lanes: lane 0 holds, the others want in rising number, and the last one is told to wait
+-- ---- the longest wait: lane 0 holds, the others want in rising number, and the last one is told to wait
 unfoldable pub wantsFrom : ℕ → ℕ → List CallBytes
 wantsFrom lane zero = []
 wantsFrom lane (suc more) = wanting lane 0 ∷ wantsFrom (lane + 1) more
@@ -39,9 +39,12 @@ unfoldable pub passesFrom : ℕ → ℕ → List CallBytes
 passesFrom lane zero = []
 passesFrom lane (suc more) = receiving lane ∷ taking lane 0 ∷ passesFrom (lane + 1) more
 
--- the calls until the last lane is told to wait
+-- the calls before the last lane wants, and with its want
+abbrev pub longBefore : ℕ → List CallBytes
+longBefore last = opening (last + 1) ∷ wantsFrom 0 last
+
 abbrev pub longEarly : ℕ → List CallBytes
-longEarly n = opening n ∷ wantsFrom 0 n
+longEarly last = longBefore last ++ wanting last 0 ∷ []
 
 -- so many releases: by lane 0, and then by each lane that is woken
 abbrev pub longLater : ℕ → List CallBytes
