@@ -82,7 +82,7 @@ struct gudlemi_row {
 
 /* The report of waiting: 4,128 bytes with no gap between them, each number in the machine's own order of bytes.
  *
- * Up to version 1.2.0 it had 64 rows and 2,080 bytes. The library cannot tell an old one: compile anew what lends it,
+ * Up to version 1.2.0 it had rows for 64 lanes, and 2,080 bytes. The library cannot tell an old one: compile anew what lends it,
  * and see that gudlemi_version() is GUDLEMI_VERSION.
  *
  * A report of all zeros is the one with no waiting, as memset or `= {0}` makes it. Lend one to the runs of any number

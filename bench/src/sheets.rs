@@ -152,14 +152,14 @@ pub fn distant_writes(length: usize, distance: u8) -> Vec<u8> {
     sheet.filled()
 }
 
-/// (b) 512 records are written; then over and over all lanes want to read, each takes 8 and reads
-/// them, and the pointer goes back to 0.
+/// (b) 8 records a lane are written; then over and over all lanes want to read, each takes 8 and
+/// reads them, and the pointer goes back to 0.
 pub fn reads(length: usize, lanes: u8) -> Vec<u8> {
     let mut sheet = Sheet::new(length);
     sheet.open(lanes, 65_536);
     sheet.want(0, 0);
-    sheet.take(0, 512);
-    for number in 0..512 {
+    sheet.take(0, 8 * lanes as u16);
+    for number in 0..8 * lanes as u64 {
         sheet.write(0, record(number));
     }
     while !sheet.full {

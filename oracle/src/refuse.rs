@@ -1,4 +1,5 @@
-//! The reasons for refusing, one function for each number of document 01 and Wishes 1 and 2.
+//! The reasons for refusing, one function for each number of document 01, as Wish 2 leaves it,
+//! and of Wish 1.
 //! Every reason is looked at for every event, and the lowest is given; 17 alone is looked
 //! for once, after 1 and before the first event of a run with a report.
 

@@ -1,12 +1,10 @@
 //! `left GROUPS A B`: holds two outputs of a program `lent` (oracle/README.md) against each other, group by group. It names the first group that differs, and
 //! exits 1; so it does where no sheet of the groups got 17 or no report grew, as then the comparison would show little.
 
+use oracle_lib::report::REPORT_BYTES;
 use oracle_lib::stream::{open_source, read_item};
 use std::io::{self, Read};
 use std::process::ExitCode;
-
-/// The bytes of a report: at the start of a group, and at the end of what is left of it.
-const REPORT: usize = 2_080;
 
 const REFUSED_17: &[u8] = b"0 refused 17\n";
 
@@ -27,15 +25,16 @@ fn difference(a: &[u8], b: &[u8]) -> Option<String> {
         return Some(format!("A has {} bytes, B {}", a.len(), b.len()));
     }
     let at = a.iter().zip(b).position(|(x, y)| x != y)?;
-    let part = if at + REPORT < a.len() { "a printed text" } else { "the report" };
+    let part = if at + REPORT_BYTES < a.len() { "a printed text" } else { "the report" };
     Some(format!("byte {at} of {}, in {part}: A has {:02x}, B {:02x}", a.len(), a[at], b[at]))
 }
 
 /// Counts what is to be seen of a group and its output.
 fn count(seen: &mut Seen, group: &[u8], left: &[u8]) -> Result<(), String> {
     let cut = || format!("group {}: shorter than a report", seen.groups);
-    let lent = group.get(..REPORT).ok_or_else(cut)?;
-    let texts = left.len().checked_sub(REPORT).ok_or_else(cut)?;
+    // A report is at the start of a group, and at the end of what is left of it.
+    let lent = group.get(..REPORT_BYTES).ok_or_else(cut)?;
+    let texts = left.len().checked_sub(REPORT_BYTES).ok_or_else(cut)?;
     let refused = left[..texts].windows(REFUSED_17.len()).any(|part| part == REFUSED_17);
     seen.refused_17 += usize::from(refused);
     seen.grown += usize::from(lent != &left[texts..]);
