@@ -60,33 +60,24 @@ fn one_lane_holds() {
     assert_eq!(answers("01 01 00000008, 02 00 01")[1], "holds 0");
 }
 
-#[test]
-fn next_lane_goes_round() {
-    let mut machine = opened(64, 64);
-    for lane in [63, 62, 0] {
-        machine.call(&Event::Want { lane, purpose: 0 });
+/// A line of so many lanes on which these have wanted, the first one holding.
+fn wanted_by(lanes: u8, purpose: u8, wanting: &[u8]) -> Machine {
+    let mut machine = opened(lanes, 64);
+    for &lane in wanting {
+        machine.call(&Event::Want { lane, purpose });
     }
-    assert_eq!(say(&mut machine, Event::Take { lane: 63, count: 0 }), "region 0 0 wakes 0");
-    let mut machine = opened(64, 64);
-    for lane in [5, 4] {
-        machine.call(&Event::Want { lane, purpose: 2 });
-    }
-    assert_eq!(say(&mut machine, Event::Free { lane: 5 }), "freed wakes 4");
+    machine
 }
 
-/// The same two edges with the most lanes.
+/// Document 01's two edges with 64 lanes, and the same two with 128.
 #[test]
-fn next_lane_goes_round_128() {
-    let mut machine = opened(128, 64);
-    for lane in [127, 126, 0] {
-        machine.call(&Event::Want { lane, purpose: 0 });
+fn next_lane_goes_round() {
+    for (lanes, last) in [(64, 63), (128, 127)] {
+        let mut machine = wanted_by(lanes, 0, &[last, last - 1, 0]);
+        assert_eq!(say(&mut machine, Event::Take { lane: last, count: 0 }), "region 0 0 wakes 0");
+        let mut machine = wanted_by(lanes, 2, &[5, 4]);
+        assert_eq!(say(&mut machine, Event::Free { lane: 5 }), "freed wakes 4");
     }
-    assert_eq!(say(&mut machine, Event::Take { lane: 127, count: 0 }), "region 0 0 wakes 0");
-    let mut machine = opened(128, 64);
-    for lane in [5, 4] {
-        machine.call(&Event::Want { lane, purpose: 2 });
-    }
-    assert_eq!(say(&mut machine, Event::Free { lane: 5 }), "freed wakes 4");
 }
 
 #[test]
