@@ -82,8 +82,8 @@ struct gudlemi_row {
 
 /* The report of waiting: 4,128 bytes with no gap between them, each number in the machine's own order of bytes.
  *
- * Up to version 1.2.0 it had rows for 64 lanes, and 2,080 bytes. The library cannot tell an old one: compile anew what lends it,
- * and see that gudlemi_version() is GUDLEMI_VERSION.
+ * Up to version 1.2.0 it had rows for 64 lanes, and 2,080 bytes. The library cannot tell an old one: compile anew what
+ * lends it, and see that gudlemi_version() is GUDLEMI_VERSION.
  *
  * A report of all zeros is the one with no waiting, as memset or `= {0}` makes it. Lend one to the runs of any number
  * of sheets, one after the other: it then has the waits of all of them. The rows of `lane` are those of lanes 0 to 127,

@@ -134,7 +134,8 @@ pub fn shared_writes_in_view(length: usize, lanes: u8, blocks: u8) -> Vec<u8> {
     sheet.filled()
 }
 
-/// Two lanes of the widest line, so many apart, want and write by turns: a release has that far to search.
+/// Two lanes of the widest line, so many apart, want and write by turns: a release has that far to
+/// search.
 pub fn distant_writes(length: usize, distance: u8) -> Vec<u8> {
     let mut sheet = Sheet::new(length);
     let mut number = 0;

@@ -12,15 +12,14 @@ use Rattle.demand3.specs.Claim.{entryAfter, lanesAfter, releases, wakesO
 abbrev pub EnoughReleases : List ℕ → ℕ → List CallBytes → ℕ → Type 0
 EnoughReleases book i early enough = (later : List CallBytes) → enough ≤ releases nextLane book early later → 1 ≤ wakesOf nextLane book i early later
 
--- .. whenever a lane i is told to wait, by the answer to the call `told`
-abbrev pub AlwaysEnough : ℕ → Type 0
+-- .. whenever a lane i is told to wait, by the answer to the call `told`; how many, by the book and the calls up to that answer
+abbrev pub AlwaysEnough : (List ℕ → List CallBytes → ℕ) → Type 0
 AlwaysEnough enough =
     (book : List ℕ) (early : List CallBytes) (told : CallBytes) (i : ℕ) → tellsToWait i (entryAfter nextLane book early told) ≡ true
-    → EnoughReleases book i (early ++ told ∷ []) enough
+    → EnoughReleases book i (early ++ told ∷ []) (enough book (early ++ told ∷ []))
 
 pub record LongestWaits : Type 0 where
   -- of a line with N lanes
-  pub lanes-less-one : (book : List ℕ) (early : List CallBytes) (told : CallBytes) (i : ℕ) → tellsToWait i (entryAfter nextLane book early told) ≡ true
-      → EnoughReleases book i (early ++ told ∷ []) (lanesAfter nextLane book (early ++ told ∷ []) - 1)
+  pub lanes-less-one : AlwaysEnough (λ (book : List ℕ) (calls : List CallBytes). lanesAfter nextLane book calls - 1)
   -- of every line
-  pub at-most-127 : AlwaysEnough 127
+  pub at-most-127 : AlwaysEnough (λ (book : List ℕ) (calls : List CallBytes). 127)

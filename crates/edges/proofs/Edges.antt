@@ -3,7 +3,7 @@ use Prim.Native.Nat.{ℕ, zero, suc, _+_, _≤_, _<_}
 use mathlib.Core.Path.{_≡_, refl, sym, ap, _∙_}
 use mathlib.Core.Logic.{_≢_}
 use mathlib.Core.List.{List, [], _∷_, map}
-use mathlib.Core.Bool.{Bool, true, false, cond, not, and-true, _&&_}
+use mathlib.Core.Bool.{true, false, not, and-true, _&&_}
 use native.Mathlib.Omega.{arith}
 use native.Mathlib.Decide.{ℕ-discrete}
 use lib.ListN.{length, replicate, set, List·getD-map}
@@ -16,7 +16,7 @@ use Rattle.lists.proofs.Tests.{both, by-test, clash}
 use Rattle.lists.proofs.Counts.{all-from, all-set, any-count, count-one}
 use Rattle.view.specs.View.{blockRecord, endOfBook, inOrder, place, positionOf, viewOk}
 use Rattle.view.specs.declared.Place.{Place}
-use Rattle.limits.specs.Limits.{leastCapacity, mostCapacity, mostLanes}
+use Rattle.limits.specs.Limits.{mostLanes}
 use Rattle.line.specs.declared.Purpose.{Purpose}
 use Rattle.line.specs.declared.Phase.{Phase}
 use Rattle.line.specs.declared.Lane.{Lane}
@@ -34,11 +34,11 @@ use Rattle.event.specs.Event.{Call, callOf, fieldsIn, given}
 use Rattle.event.specs.declared.Event.{Event}
 use Rattle.steps.specs.Answer.{saidBy}
 use Rattle.steps.specs.State.{Result, State, fresh}
-use Rattle.steps.specs.Effects.{openStep, othersDown, purposeOf, started, wantStep}
+use Rattle.steps.specs.Effects.{othersDown, purposeOf, started, wantStep}
 use Rattle.steps.specs.Refusals.{laneOf, namesLane}
 use Rattle.steps.specs.Step.{callEvent, refuse, step}
 use Rattle.steps.specs.declared.Answer.{Answer}
-use Rattle.steps.proofs.CheckingOrder.{Decided, accepted, decided, refused}
+use Rattle.steps.proofs.CheckingOrder.{Decided, accepted, decided, refused, refused-first}
 use Rattle.steps.proofs.Edges.{free-wakes, set-down, take-region}
 use Rattle.steps.proofs.Release.{raised-up}
 use Rattle.steps.proofs.Chains.{atLane, enter-chain, free-chain, look-chain, open-chain, put-chain, read-chain, receive-chain, take-chain, want-chain, write-chain}
@@ -162,14 +162,14 @@ module _ (x : State) (n i : ℕ) (h : i < n) (H : Holder x n i) where
 
 -- every lane that waits is farther from the last than lane 0 is
 last-wakes-lane0 : (x : State) (n last : ℕ) → last + 1 ≡ n → Holder x n last → Waits x 0 → Release x last 0
-last-wakes-lane0 x n last e H first = release x n last (omega arith) H 0 (omega arith) first next
+last-wakes-lane0 x n last e H waits0 = release x n last (omega arith) H 0 (omega arith) waits0 next
   where
     next : (a : ℕ) → Next n (flags x n last (omega arith) H) last a → a ≡ 0
     next a q =
         elim (ℕ-discrete 0 a) [
           | yes z ↦ sym z
           | no z ↦
-              let d = q .nearer 0 (omega arith) (waits-up x n last (omega arith) H 0 first) z in
+              let d = q .nearer 0 (omega arith) (waits-up x n last (omega arith) H 0 waits0) z in
               let some : 0 < last = omega (arith, q .inside) in
               absurd (omega (arith, q .inside, distance-round n a 0 (omega arith), distance-round n last 0 some))
         ]
@@ -185,30 +185,30 @@ module _ (n : ℕ) (events : List Event) where
   reached-good : GoodState (reached n events)
   reached-good = calls-good (map given events) (fresh (replicate n 0)) (unopened-good (replicate n 0))
 
-  reached-reachedPast1 : reached n events ≡ reachedPast1
-  reached-reachedPast1 = after-past-1 (map given events) (fresh (replicate n 0)) (unopened-good (replicate n 0))
+  reached-past-1 : reached n events ≡ reachedPast1
+  reached-past-1 = after-past-1 (map given events) (fresh (replicate n 0)) (unopened-good (replicate n 0))
 
   reached-sound : isSound (reached n events) ≡ true
   reached-sound = let x = reached n events in sound-of (x .line) (length (x .book)) reached-good
 
-  call-reachedPast1 : (c : Call) → step (reached n events) c ≡ stepPast1 reachedPast1 c
-  call-reachedPast1 c = step-past-1 (reached n events) reached-good c ∙ ap (λ (x : State). stepPast1 x c) reached-reachedPast1
+  call-past-1 : (c : Call) → step (reached n events) c ≡ stepPast1 reachedPast1 c
+  call-past-1 c = step-past-1 (reached n events) reached-good c ∙ ap (λ (x : State). stepPast1 x c) reached-past-1
 
-  answer-reachedPast1 : (c : Call) → step (reached n events) c .answer ≡ stepPast1 reachedPast1 c .answer
-  answer-reachedPast1 c = ap (λ (r : Result). r .answer) (call-reachedPast1 c)
+  answer-past-1 : (c : Call) → step (reached n events) c .answer ≡ stepPast1 reachedPast1 c .answer
+  answer-past-1 c = ap (λ (r : Result). r .answer) (call-past-1 c)
 
   answer-each : (f : ℕ → Event) (ks : List ℕ) → map (λ (k : ℕ). answerTo (reached n events) (f k)) ks ≡ map (λ (k : ℕ). stepPast1 reachedPast1 (given (f k)) .answer) ks
   answer-each f [] = refl
-  answer-each f (k ∷ ks) = rw (answer-reachedPast1 (given (f k)), answer-each f ks)
+  answer-each f (k ∷ ks) = rw (answer-past-1 (given (f k)), answer-each f ks)
 
   -- more events after these
   module _ (more : List Event) where
-    answers-reachedPast1 : answersTo (reached n events) more ≡ map (λ (r : Result). r .answer) (callsPast1 reachedPast1 (map given more))
-    answers-reachedPast1 =
-        ap (map (λ (r : Result). r .answer)) (calls-past-1 (map given more) (reached n events) reached-good ∙ ap (λ (x : State). callsPast1 x (map given more)) reached-reachedPast1)
+    answers-past-1 : answersTo (reached n events) more ≡ map (λ (r : Result). r .answer) (callsPast1 reachedPast1 (map given more))
+    answers-past-1 =
+        ap (map (λ (r : Result). r .answer)) (calls-past-1 (map given more) (reached n events) reached-good ∙ ap (λ (x : State). callsPast1 x (map given more)) reached-past-1)
 
-    later-reachedPast1 : afterEvents (reached n events) more ≡ afterPast1 reachedPast1 (map given more)
-    later-reachedPast1 = after-past-1 (map given more) (reached n events) reached-good ∙ ap (λ (x : State). afterPast1 x (map given more)) reached-reachedPast1
+    later-past-1 : afterEvents (reached n events) more ≡ afterPast1 reachedPast1 (map given more)
+    later-past-1 = after-past-1 (map given more) (reached n events) reached-good ∙ ap (λ (x : State). afterPast1 x (map given more)) reached-past-1
 
     later-sound : isSound (afterEvents (reached n events) more) ≡ true
     later-sound = let x = afterEvents (reached n events) more in sound-of (x .line) (length (x .book)) (calls-good (map given more) (reached n events) reached-good)
@@ -223,10 +223,10 @@ module _ (n last below : ℕ) where
       → LastReleases n last below
   last-releases e phases taken freed =
       record {
-        line = ap (λ (x : State). phasesOf x (0 ∷ below ∷ last ∷ [])) (reached-reachedPast1 64 (lastBy n last below 0)) ∙ phases;
+        line = ap (λ (x : State). phasesOf x (0 ∷ below ∷ last ∷ [])) (reached-past-1 64 (lastBy n last below 0)) ∙ phases;
         sound = rw (reached-sound 64 (lastBy n last below 0), reached-sound 64 (lastBy n last below 2));
-        take = answer-reachedPast1 64 (lastBy n last below 0) (given (Event.Take last 1)) ∙ taken;
-        free = answer-reachedPast1 64 (lastBy n last below 2) (given (Event.Free last)) ∙ freed;
+        take = answer-past-1 64 (lastBy n last below 0) (given (Event.Take last 1)) ∙ taken;
+        free = answer-past-1 64 (lastBy n last below 2) (given (Event.Free last)) ∙ freed;
         every = λ x H waits0 waits-below. last-wakes-lane0 x n last e H waits0;
       }
 
@@ -245,10 +245,10 @@ lane5-releases : (n : ℕ) → 5 < n
     → Lane5Releases n
 lane5-releases n h phases taken freed =
     record {
-      line = ap (λ (x : State). phasesOf x (4 ∷ 5 ∷ [])) (reached-reachedPast1 64 (lane5By n 0)) ∙ phases;
+      line = ap (λ (x : State). phasesOf x (4 ∷ 5 ∷ [])) (reached-past-1 64 (lane5By n 0)) ∙ phases;
       sound = rw (reached-sound 64 (lane5By n 0), reached-sound 64 (lane5By n 2));
-      take = answer-reachedPast1 64 (lane5By n 0) (given (Event.Take 5 1)) ∙ taken;
-      free = answer-reachedPast1 64 (lane5By n 2) (given (Event.Free 5)) ∙ freed;
+      take = answer-past-1 64 (lane5By n 0) (given (Event.Take 5 1)) ∙ taken;
+      free = answer-past-1 64 (lane5By n 2) (given (Event.Free 5)) ∙ freed;
       every = λ x H waits4 only. lane5-wakes-lane4 x n h H waits4 only;
     }
 
@@ -272,9 +272,9 @@ module _ (a b c : Event) where
       → EnteredInOrder a b c
   entered-in-order answered phases pointer =
       record {
-        answers = answers-reachedPast1 120 pointer10By inThisOrder ∙ answered;
-        lanes = ap (λ (x : State). phasesOf x (0 ∷ 1 ∷ 2 ∷ [])) (later-reachedPast1 120 pointer10By inThisOrder) ∙ phases;
-        pointer = ap (λ (x : State). x .line .pointer) (later-reachedPast1 120 pointer10By inThisOrder) ∙ pointer;
+        answers = answers-past-1 120 pointer10By inThisOrder ∙ answered;
+        lanes = ap (λ (x : State). phasesOf x (0 ∷ 1 ∷ 2 ∷ [])) (later-past-1 120 pointer10By inThisOrder) ∙ phases;
+        pointer = ap (λ (x : State). x .line .pointer) (later-past-1 120 pointer10By inThisOrder) ∙ pointer;
         sound = later-sound 120 pointer10By inThisOrder;
       }
 
@@ -304,7 +304,7 @@ order-210 = entered-in-order enter2 enter1 enter0 refl refl refl
 
 starts-at-10 : pointer10 .line .pointer .0 ≡ 10
 unfolding blockRecord inOrder viewOk stepPast1 afterPast1
-starts-at-10 = ap (λ (x : State). x .line .pointer .0) (reached-reachedPast1 120 pointer10By)
+starts-at-10 = ap (λ (x : State). x .line .pointer .0) (reached-past-1 120 pointer10By)
 
 -- ---- the table
 pub starred-edges : StarredEdges
@@ -319,22 +319,22 @@ starred-edges =
       lane5-of-64 = lane5-of-64;
       lane5-of-128 = lane5-of-128;
       view-puts = λ content. answer-each 64 (viewedBy 2) (λ (k : ℕ). Event.Put 0 (place k) content) (0 ∷ 1 ∷ 2 ∷ 3 ∷ []);
-      view-writes = λ content. answers-reachedPast1 64 (viewedBy 0) (Event.Take 0 4 ∷ replicate 4 (Event.Write 0 content));
-      fit-64 = answer-reachedPast1 64 (plainBy 64) (given (Event.Take 0 8));
-      overfill-64 = answer-reachedPast1 64 (plainBy 64) (given (Event.Take 0 9));
-      fit-63 = answer-reachedPast1 63 (plainBy 63) (given (Event.Take 0 7));
-      overfill-63 = answer-reachedPast1 63 (plainBy 63) (given (Event.Take 0 8));
-      back-3 = answer-reachedPast1 64 pointer3By (given (Event.Seek 1 (minus 3)));
-      back-4 = answer-reachedPast1 64 pointer3By (given (Event.Seek 1 (minus 4)));
-      bytes-back-3 = answer-reachedPast1 64 pointer3By (callOf 0x0C (1 ∷ 0xFF ∷ 0xFF ∷ 0xFF ∷ 0xFD ∷ []));
-      bytes-back-4 = answer-reachedPast1 64 pointer3By (callOf 0x0C (1 ∷ 0xFF ∷ 0xFF ∷ 0xFF ∷ 0xFC ∷ []));
-      seek-most = answer-reachedPast1 64 pointer3By (given (Event.Seek 0 (pos 65536)));
-      seek-past = answer-reachedPast1 64 pointer3By (given (Event.Seek 0 (pos 65537)));
-      size-24 = ap (λ (x : State). x .line .size) (reached-reachedPast1 64 size24By);
-      seek-end = answer-reachedPast1 64 size24By (given (Event.Seek 2 (pos 0)));
-      pointer-end = ap (λ (r : Result). r .after .line .pointer) (call-reachedPast1 64 size24By (given (Event.Seek 2 (pos 0))));
-      view-10 = ap (λ (x : State). x .line .view) (reached-reachedPast1 120 pointer10By);
-      pointer-10 = ap (λ (x : State). x .line .pointer) (reached-reachedPast1 120 pointer10By);
+      view-writes = λ content. answers-past-1 64 (viewedBy 0) (Event.Take 0 4 ∷ replicate 4 (Event.Write 0 content));
+      fit-64 = answer-past-1 64 (plainBy 64) (given (Event.Take 0 8));
+      overfill-64 = answer-past-1 64 (plainBy 64) (given (Event.Take 0 9));
+      fit-63 = answer-past-1 63 (plainBy 63) (given (Event.Take 0 7));
+      overfill-63 = answer-past-1 63 (plainBy 63) (given (Event.Take 0 8));
+      back-3 = answer-past-1 64 pointer3By (given (Event.Seek 1 (minus 3)));
+      back-4 = answer-past-1 64 pointer3By (given (Event.Seek 1 (minus 4)));
+      bytes-back-3 = answer-past-1 64 pointer3By (callOf 0x0C (1 ∷ 0xFF ∷ 0xFF ∷ 0xFF ∷ 0xFD ∷ []));
+      bytes-back-4 = answer-past-1 64 pointer3By (callOf 0x0C (1 ∷ 0xFF ∷ 0xFF ∷ 0xFF ∷ 0xFC ∷ []));
+      seek-most = answer-past-1 64 pointer3By (given (Event.Seek 0 (pos 65536)));
+      seek-past = answer-past-1 64 pointer3By (given (Event.Seek 0 (pos 65537)));
+      size-24 = ap (λ (x : State). x .line .size) (reached-past-1 64 size24By);
+      seek-end = answer-past-1 64 size24By (given (Event.Seek 2 (pos 0)));
+      pointer-end = ap (λ (r : Result). r .after .line .pointer) (call-past-1 64 size24By (given (Event.Seek 2 (pos 0))));
+      view-10 = ap (λ (x : State). x .line .view) (reached-past-1 120 pointer10By);
+      pointer-10 = ap (λ (x : State). x .line .pointer) (reached-past-1 120 pointer10By);
       order-012 = order-012;
       order-021 = order-021;
       order-102 = order-102;
@@ -372,24 +372,11 @@ module _ (x : State) (S : isSound x ≡ true) (opened : x .line .lanes ≢ 0) wh
 lanes-129 : (x : State) → isSound x ≡ true → x .line .lanes ≡ 0 → (capacity : ℕ) → answerTo x (Event.Open 129 capacity) ≡ Answer.Refused 6
 lanes-129 x S unopened capacity = ap (λ (r : Result). r .answer) (open-chain nextLane x 129 capacity) ∙ rw (S, unopened)
 
-refused-is : (k : ℕ) → k ≢ 6 → Answer.Refused k ≢ Answer.Refused 6
-refused-is k n e = n cc
-
--- what an opening with lanes in range gives, by the tests of 1, 5 and 7: other numbers, and an opening is no refusal
-abbrev openingBy : State → ℕ → ℕ → Bool → Bool → Bool → Result
-openingBy x lanes capacity ok unopened small = cond (not ok) (refuse 1 x) (cond (not unopened) (refuse 5 x) (cond small (refuse 7 x) (openStep x lanes capacity)))
-
-opening-not-6 : (x : State) (lanes capacity : ℕ) (ok unopened small : Bool) → openingBy x lanes capacity ok unopened small .answer ≢ Answer.Refused 6
-opening-not-6 x lanes capacity false unopened small e = refused-is 1 (λ z. omega arith) e
-opening-not-6 x lanes capacity true false small e = refused-is 5 (λ z. omega arith) e
-opening-not-6 x lanes capacity true true true e = refused-is 7 (λ z. omega arith) e
-opening-not-6 x lanes capacity true true false e = let z : _≡_ {A = ℕ} 0 1 = cc in absurd (omega arith)
-
+-- refused with 6 only where the reason of that number applies
 lanes-inside : (x : State) (lanes capacity : ℕ) → 1 ≤ lanes → lanes ≤ 128 → answerTo x (Event.Open lanes capacity) ≢ Answer.Refused 6
 lanes-inside x lanes capacity low high e =
-    let small = not (leb leastCapacity capacity && leb capacity mostCapacity && leb capacity (length (x .book))) in
-    let opening : callEvent x (Event.Open lanes capacity) ≡ openingBy x lanes capacity (isSound x) (eqb (x .line .lanes) 0) small = open-chain nextLane x lanes capacity ∙ rw (le-leb 1 lanes low, le-leb lanes mostLanes high) in
-    opening-not-6 x lanes capacity (isSound x) (eqb (x .line .lanes) 0) small (sym (ap (λ (r : Result). r .answer) opening) ∙ e)
+    let outside : not (leb 1 lanes && leb lanes mostLanes) ≡ true = refused-first nextLane x (given (Event.Open lanes capacity)) 6 e .applies in
+    clash (sym (rw (le-leb 1 lanes low, le-leb lanes mostLanes high) at outside))
 
 pub other-edges : OtherEdges
 unfolding sound run runOn answerLines answerWords decimalIn linebook words

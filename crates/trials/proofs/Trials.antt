@@ -76,7 +76,7 @@ unfolding blockRecord inOrder positionOf viewOk firstRaised nextLane bigEndian n
 long-woken = ap releasesAndWakes (entries-after (longEarly 127) (longLater 127))
 
 -- so 126 releases are not enough for every wait
-pub within-126-fails : AlwaysEnough 126 → ⊥
+pub within-126-fails : AlwaysEnough (λ (book : List ℕ) (calls : List CallBytes). 126) → ⊥
 within-126-fails always =
     let es = entriesAfter nextLane book64 (longEarly 127) (longLater 126) in
     let released : countPass isRelease es ≡ 126 = ap (λ (ns : List ℕ). getD ns 0 0) long-not-yet in
