@@ -1,32 +1,21 @@
--- How the search for a flagged lane moves on by one lane, and what it says of the lane that it finds.
+-- What the search for a flagged lane says of the lane that it finds: it is a lane of the line, it is flagged, and it is not the releaser.
 use Prim.Native.Nat.{ℕ, zero, suc, _+_, _-_, _≤_, _<_}
 use mathlib.Core.Bool.{Bool, true, false, cond}
 use mathlib.Core.Path.{_≡_, refl}
+use mathlib.Core.Logic.{_≢_}
 use mathlib.Core.List.{List}
 use native.Mathlib.Omega.{arith}
-use lib.ListN.{getD}
-use borrow.Author.Tests.{eq-eqb, ne-eqb}
+use lib.ListN.{set}
+use Rattle.lists.proofs.Tests.{both}
+use Rattle.waitlist.proofs.Lowered.{own-down}
 use Rattle.waitlist.specs.declared.Wakes.{Wakes}
 use Rattle.waitlist.specs.NextLane.{firstRaised, nextLane, orElse, raised}
 
--- where a lane is below the end, the count of lanes left is a successor
-left-suc : (i e : ℕ) → i < e → e - i ≡ suc (e - (i + 1))
-left-suc i e h = omega arith
-
-module _ (flags : List ℕ) (i e : ℕ) where
-  pub first-end : e ≤ i → firstRaised flags i (e - i) ≡ Wakes.None
-  unfolding firstRaised
-  first-end h =
-      let none : e - i ≡ 0 = omega arith in
-      rw none
-
-  pub first-here : i < e → getD flags i 0 ≡ 1 → firstRaised flags i (e - i) ≡ Wakes.Lane i
-  unfolding firstRaised
-  first-here h up = rw (left-suc i e h, eq-eqb (getD flags i 0) 1 up)
-
-  pub first-more : i < e → (getD flags i 0 ≡ 1 → ⊥) → firstRaised flags i (e - i) ≡ firstRaised flags (i + 1) (e - (i + 1))
-  unfolding firstRaised
-  first-more h down = rw (left-suc i e h, ne-eqb (getD flags i 0) 1 down)
+pub first-end : (flags : List ℕ) (i e : ℕ) → e ≤ i → firstRaised flags i (e - i) ≡ Wakes.None
+unfolding firstRaised
+first-end flags i e h =
+    let none : e - i ≡ 0 = omega arith in
+    rw none
 
 -- ---- what is found
 -- the lane j is one of the `count` lanes from i on, and its flag is up
@@ -76,3 +65,9 @@ module _ (lanes : ℕ) (flags : List ℕ) (releaser j : ℕ) (found : nextLane l
       (λ k e. first-found flags (releaser + 1) (lanes - (releaser + 1)) k e .up)
       (λ k e. first-found flags 0 lanes k e .up)
       found
+
+-- the releaser is not found, whether its own flag is stored as up or as down
+pub next-other : (lanes : ℕ) (flags : List ℕ) (releaser j : ℕ) → nextLane lanes (set flags releaser 0) releaser ≡ Wakes.Lane j → j ≢ releaser
+next-other lanes flags releaser j found same =
+    let up : raised (set flags releaser 0) releaser ≡ true = rw same at (next-raised lanes (set flags releaser 0) releaser j found) in
+    both up (rw (own-down flags releaser))

@@ -2,4 +2,5 @@
 pub mod Laws
 pub mod Lowered
 pub mod Nearest
+pub mod WordLaws
 pub mod Edges

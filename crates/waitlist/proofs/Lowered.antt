@@ -1,11 +1,12 @@
--- The search once the releaser's flag is down is the search that steps over the releaser.
+-- The search once the releaser's flag is down is the search that steps over the releaser, and ends with the row of flags.
 use Prim.Native.Nat.{ℕ, zero, suc, _+_, _-_, _≤_, _<_, min}
-use mathlib.Core.Path.{_≡_, refl, _∙_}
+use mathlib.Core.Path.{_≡_, refl, sym, _∙_}
 use mathlib.Core.Bool.{Bool, true, false, cond}
 use mathlib.Core.List.{List, [], _∷_}
+use native.Mathlib.Nat.{sub-zero}
 use native.Mathlib.Omega.{arith}
 use native.Mathlib.Decide.{decLt}
-use lib.ListN.{getD, set}
+use lib.ListN.{List·getD-eq-default, getD, length, set}
 use lib.Seq.{getD-set-other}
 use Rattle.waitlist.specs.declared.Wakes.{Wakes}
 use Rattle.waitlist.specs.NextLane.{firstRaised, nextLane, orElse, raised}
@@ -30,7 +31,7 @@ split-step : (b : Bool) (i : ℕ) (rest first second : Wakes) → rest ≡ orEls
 split-step true i rest first second e = refl
 split-step false i rest first second e = e
 
-first-split : (flags : List ℕ) (i a b : ℕ) → firstRaised flags i (a + b) ≡ orElse (firstRaised flags i a) (firstRaised flags (i + a) b)
+pub first-split : (flags : List ℕ) (i a b : ℕ) → firstRaised flags i (a + b) ≡ orElse (firstRaised flags i a) (firstRaised flags (i + a) b)
 unfolding firstRaised
 first-split flags i zero b =
     let none : zero + b ≡ b = omega arith in
@@ -85,3 +86,40 @@ next-lowered lanes flags releaser =
       | yes h ↦ let m : min releaser lanes ≡ releaser = omega arith in rw m (below-lanes lanes flags releaser h)
       | no h ↦ let m : min releaser lanes ≡ lanes = omega arith in rw m (past-lanes lanes flags releaser (omega arith))
     ]
+
+-- ---- a lane past the row has no flag
+past-row : (flags : List ℕ) (i count : ℕ) → length flags ≤ i → firstRaised flags i count ≡ Wakes.None
+unfolding firstRaised
+past-row flags i zero h = refl
+past-row flags i (suc count) h = rw (List·getD-eq-default flags 0 h) (past-row flags (i + 1) count (omega arith))
+
+or-none : (a : Wakes) → orElse a Wakes.None ≡ a
+or-none (Wakes.Lane j) = refl
+or-none Wakes.None = refl
+
+module _ (flags : List ℕ) where
+  abbrev row : ℕ
+  row = length flags
+
+  -- a search beyond the row finds what the search up to the row's end finds
+  in-row : (i end : ℕ) → firstRaised flags i (end - i) ≡ firstRaised flags i (min end row - i)
+  in-row i end =
+      elim (decLt end row) [
+        | yes inside ↦ let m : min end row ≡ end = omega arith in rw m
+        | no beyond ↦ elim (decLt i row) [
+          | yes starts ↦
+              let m : min end row ≡ row = omega arith in
+              let parts : end - i ≡ (row - i) + (end - row) = omega arith in
+              let last : i + (row - i) ≡ row = omega arith in
+              rw (m, parts, first-split flags i (row - i) (end - row), last, past-row flags row (end - row) (omega arith)) (or-none (firstRaised flags i (row - i)))
+          | no past ↦ past-row flags i (end - i) (omega arith) ∙ sym (past-row flags i (min end row - i) (omega arith))
+        ]
+      ]
+
+  -- the two searches that the code makes: above the releaser, then below it
+  pub next-in-row : (lanes releaser : ℕ)
+      → nextLane lanes (set flags releaser 0) releaser ≡ orElse (firstRaised flags (releaser + 1) (min lanes row - (releaser + 1))) (firstRaised flags 0 (min releaser (min lanes row) - 0))
+  next-in-row lanes releaser =
+      let least : min (min releaser lanes) row ≡ min releaser (min lanes row) = omega arith in
+      let below : firstRaised flags 0 (min releaser lanes - 0) ≡ firstRaised flags 0 (min releaser (min lanes row) - 0) = rw least at (in-row 0 (min releaser lanes)) in
+      rw (next-lowered lanes flags releaser, in-row (releaser + 1) lanes, ← below, sub-zero (min releaser lanes))

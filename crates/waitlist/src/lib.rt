@@ -1,11 +1,13 @@
 // The waitlist: whether another lane has its flag up, and which lane a release wakes.
-ghost use Prim.Native.Nat.{_+_, _-_, _≤_, min};
+ghost use Prim.Native.Nat.{min};
 ghost use mathlib.Core.Path.{_≡_};
 ghost use lib.Dec.{eqb};
-ghost use lib.ListN.{getD, set};
+ghost use lib.ListN.{getD, length, set};
 ghost use Rattle.lists.specs.Lists.{allPass};
-ghost use Rattle.waitlist.specs.NextLane.{firstRaised, nextLane};
+ghost use Rattle.waitlist.specs.NextLane.{nextLane};
 use limits::MOST_LANES;
+
+mod words;
 
 // The lane that a release wakes, if a lane waits.
 pub enum Wakes {
@@ -61,21 +63,6 @@ pub fn others_down(flags: &[u8; MOST_LANES], lane: u8) -> bool
     down_but(flags, index(lane))
 }
 
-// The first flagged lane from start up to, and not including, end.
-fn first_raised(flags: &[u8], start: usize, end: usize) -> Wakes
-    requires { ⌜ end ≤ 255 ⌝ }
-    ensures { λ r. ⌜ r ≡ firstRaised (now (flags .entry)) start (end - start) ⌝ }
-{
-    let mut i = start;
-    while i < end {
-        if flag_at(flags, i) == 1 {
-            return Wakes::Lane(i as u8);
-        }
-        i += 1;
-    }
-    Wakes::None
-}
-
 // The smaller of two lane numbers.
 fn least(a: usize, b: usize) -> usize
     ensures { λ r. ⌜ r ≡ min a b ⌝ }
@@ -86,16 +73,28 @@ fn least(a: usize, b: usize) -> usize
     b
 }
 
+// The end of the lanes that have a flag: past the row none is up, whatever the number of lanes is.
+fn end_of(lanes: u8, flags: &[u8]) -> usize
+    ensures { λ r. ⌜ r ≡ min lanes (length (now (flags .entry))) ⌝ }
+{
+    least(index(lanes), flags.len())
+}
+
 // The next lane once the releaser's flag is down: the first flagged one after the releaser, upwards, then from 0 up to it.
 // The releaser's own flag is not looked at, so that it does not matter whether it is down yet.
 pub fn next_lane(lanes: u8, flags: &[u8; MOST_LANES], releaser: u8) -> Wakes
     ensures { λ r. ⌜ r ≡ nextLane lanes (set (now (flags .entry)) releaser 0) releaser ⌝ }
 {
-    let end = index(lanes);
+    let end = end_of(lanes, flags);
     let own = index(releaser);
-    let above = first_raised(flags, own + 1, end);
-    match above {
-        Wakes::Lane(i) => Wakes::Lane(i),
-        Wakes::None => first_raised(flags, 0, least(own, end)),
+    let above = words::first_flagged(flags, own + 1, end);
+    if above < end {
+        return Wakes::Lane(above as u8);
     }
+    let below = least(own, end);
+    let first = words::first_flagged(flags, 0, below);
+    if first < below {
+        return Wakes::Lane(first as u8);
+    }
+    Wakes::None
 }
