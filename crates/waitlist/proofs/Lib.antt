@@ -1,4 +1,4 @@
--- The laws of the search for the next lane, and the edges of document 01 on it.
+-- The laws of the search for the next lane and of the words that it goes by, and their edges.
 pub mod Laws
 pub mod Lowered
 pub mod Nearest

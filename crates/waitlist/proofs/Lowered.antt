@@ -26,6 +26,13 @@ first-away flags r i (suc count) away =
     let here : getD (set flags r 0) i 0 ≡ getD flags i 0 = getD-set-other flags r i 0 0 (away i (omega arith) (omega arith)) in
     rw (here, first-away flags r (i + 1) count (λ j h k. away j (omega arith) (omega arith)))
 
+-- a search among no lanes
+pub first-end : (flags : List ℕ) (i end : ℕ) → end ≤ i → firstRaised flags i (end - i) ≡ Wakes.None
+unfolding firstRaised
+first-end flags i end h =
+    let none : end - i ≡ 0 = omega arith in
+    rw none
+
 -- a search in two parts
 split-step : (b : Bool) (i : ℕ) (rest first second : Wakes) → rest ≡ orElse first second → cond b (Wakes.Lane i) rest ≡ orElse (cond b (Wakes.Lane i) first) second
 split-step true i rest first second e = refl
@@ -93,6 +100,7 @@ unfolding firstRaised
 past-row flags i zero h = refl
 past-row flags i (suc count) h = rw (List·getD-eq-default flags 0 h) (past-row flags (i + 1) count (omega arith))
 
+-- a second search that finds nothing
 or-none : (a : Wakes) → orElse a Wakes.None ≡ a
 or-none (Wakes.Lane j) = refl
 or-none Wakes.None = refl
@@ -118,8 +126,8 @@ module _ (flags : List ℕ) where
 
   -- the two searches that the code makes: above the releaser, then below it
   pub next-in-row : (lanes releaser : ℕ)
-      → nextLane lanes (set flags releaser 0) releaser ≡ orElse (firstRaised flags (releaser + 1) (min lanes row - (releaser + 1))) (firstRaised flags 0 (min releaser (min lanes row) - 0))
+      → nextLane lanes (set flags releaser 0) releaser ≡ orElse (firstRaised flags (releaser + 1) (min lanes row - (releaser + 1))) (firstRaised flags 0 (min releaser (min lanes row)))
   next-in-row lanes releaser =
       let least : min (min releaser lanes) row ≡ min releaser (min lanes row) = omega arith in
-      let below : firstRaised flags 0 (min releaser lanes - 0) ≡ firstRaised flags 0 (min releaser (min lanes row) - 0) = rw least at (in-row 0 (min releaser lanes)) in
-      rw (next-lowered lanes flags releaser, in-row (releaser + 1) lanes, ← below, sub-zero (min releaser lanes))
+      let below : firstRaised flags 0 (min releaser lanes) ≡ firstRaised flags 0 (min releaser (min lanes row)) = rw (sub-zero (min releaser lanes), sub-zero (min (min releaser lanes) row), least) at (in-row 0 (min releaser lanes)) in
+      rw (next-lowered lanes flags releaser, in-row (releaser + 1) lanes, below)

@@ -1,4 +1,4 @@
--- The laws of a word of flags: it is put together from parts, a shift leaves out its lowest flags, and its trailing zeros tell the first flag that is up.
+-- The laws of a word of flags: it is put together from parts, a shift leaves out its lowest flags, and its trailing zeros tell the first flagged lane.
 use Prim.Native.Nat.{ℕ, zero, suc, _+_, _-_, _*_, _/_, _%_, _^_, _≤_, _<_}
 use mathlib.Core.Bool.{Bool, true, false, cond}
 use mathlib.Core.Path.{_≡_, refl}
@@ -17,18 +17,19 @@ use Rattle.waitlist.specs.declared.Wakes.{Wakes}
 use Rattle.waitlist.specs.NextLane.{firstRaised, orElse, raised}
 use Rattle.waitlist.specs.Words.{laneOr, word}
 
--- a digit is below 2
+-- a bit is below 2
 bit-lt : (b : Bool) → bit b < 2
 bit-lt true = omega arith
 bit-lt false = omega arith
 
--- a word of `count` flags has that many digits
+-- a word of `count` flags has that many bits
 word-lt : (flags : List ℕ) (i count : ℕ) → word flags i count < 2 ^ count
 unfolding word
 word-lt flags i zero = omega arith
 word-lt flags i (suc count) =
     rw (pow-suc 2 count) (omega (arith, bit-lt (raised flags i), word-lt flags (i + 1) count))
 
+-- so what is gathered of at most `most` flags
 pub gathered-lt : (n : ℕ) (flags : List ℕ) (i count most : ℕ) → count ≤ most → n ≡ word flags i count → n < 2 ^ most
 gathered-lt n flags i count most h e = rw e (lt-of-lt-of-le (word-lt flags i count) (pow-mono h))
 
@@ -48,10 +49,10 @@ word-split flags i (suc a) b =
 pub word-shift : (flags : List ℕ) (i a b : ℕ) → word flags i (a + b) / 2 ^ a ≡ word flags (i + a) b
 word-shift flags i a b = rw (word-split flags i a b) (high (word flags (i + a) b) a (word-lt flags i a))
 
--- each digit is the flag of its lane
-pub word-digit : (flags : List ℕ) (i j more : ℕ) → word flags i (j + suc more) / 2 ^ j % 2 ≡ bit (raised flags (i + j))
+-- each bit is the flag of its lane
+pub word-bit : (flags : List ℕ) (i j more : ℕ) → word flags i (j + suc more) / 2 ^ j % 2 ≡ bit (raised flags (i + j))
 unfolding word
-word-digit flags i j more = rw (word-shift flags i j (suc more)) (digits-mod (word flags (i + j + 1) more) (bit-lt (raised flags (i + j))))
+word-bit flags i j more = rw (word-shift flags i j (suc more)) (digits-mod (word flags (i + j + 1) more) (bit-lt (raised flags (i + j))))
 
 -- ---- the trailing zeros
 -- one more flag below those that are counted
@@ -62,8 +63,8 @@ trailing-step false i zeros width rest e =
     let last : i + suc width ≡ i + 1 + width = omega arith in
     rw (next, last) e
 
--- "the lowest flag is found by counting trailing zeros": over any width that holds the flags from lane i upwards, their word's trailing zeros, counted from
--- lane i, lead to the first flagged lane, or past the width where none is flagged
+-- "the lowest flag is found by counting trailing zeros": the trailing zeros of the word of `count` flags from lane i, in any width that holds them, are the index
+-- of the first flag that is up, or the width. With i before it: the first flagged lane, or i plus the width
 pub trailing-lane : (flags : List ℕ) (i count more : ℕ) → i + trailingZeros (count + more) (word flags i count) ≡ laneOr (i + (count + more)) (firstRaised flags i count)
 unfolding trailingZeros word firstRaised
 trailing-lane flags i zero more =
@@ -74,14 +75,6 @@ trailing-lane flags i (suc count) more =
     let above = word flags (i + 1) count in
     rw (one, digits-mod above (bit-lt (raised flags i)), digits-div above (bit-lt (raised flags i)))
     (trailing-step (raised flags i) i (trailingZeros (count + more) above) (count + more) (firstRaised flags (i + 1) count) (trailing-lane flags (i + 1) count more))
-
--- the trailing zeros of a word of flags are the index of the first flag that is up, or the width
-pub trailing-index : (flags : List ℕ) (width : ℕ) → trailingZeros width (word flags 0 width) ≡ laneOr width (firstRaised flags 0 width)
-trailing-index flags width =
-    let all : width + 0 ≡ width = omega arith in
-    let same : 0 + width ≡ width = omega arith in
-    let zeros : 0 + trailingZeros width (word flags 0 width) ≡ trailingZeros width (word flags 0 width) = omega arith in
-    rw (all, same, zeros) at (trailing-lane flags 0 width 0)
 
 -- ---- the search by a word
 -- the lane i where it is below the end of the lanes that are searched, else none
@@ -96,35 +89,31 @@ lane-found flags i end lane e = rw e (go (firstRaised flags i (end - i)) (λ j f
     go (Wakes.Lane j) is = let f = is j refl in rw (lt-ltb j end (omega (arith, f .low, f .high)))
     go Wakes.None is = rw (le-ltb end end (omega arith))
 
--- what is found among lanes, where only those below `end` count
-abbrev cut : ℕ → Wakes → Wakes
-cut end (Wakes.Lane j) = laneBelow end j
-cut end Wakes.None = Wakes.None
-
--- a search that ends earlier
-first-cut : (flags : List ℕ) (i n m : ℕ) → firstRaised flags i n ≡ cut (i + n) (firstRaised flags i (n + m))
-first-cut flags i n m =
-    rw (first-split flags i n m)
-    (go (firstRaised flags i n) (firstRaised flags (i + n) m) (λ j e. first-found flags i n j e .high) (λ j e. first-found flags (i + n) m j e .low))
-  where
-    go : (a b : Wakes) → ((j : ℕ) → a ≡ Wakes.Lane j → j < i + n) → ((j : ℕ) → b ≡ Wakes.Lane j → i + n ≤ j) → a ≡ cut (i + n) (orElse a b)
-    go (Wakes.Lane j) b below above = rw (lt-ltb j (i + n) (below j refl))
-    go Wakes.None (Wakes.Lane j) below above = rw (le-ltb j (i + n) (above j refl))
-    go Wakes.None Wakes.None below above = refl
-
--- the lane that is found, or one past the end
-cut-found : (end past : ℕ) (found : Wakes) → end ≤ past → laneBelow end (laneOr past found) ≡ cut end found
-cut-found end past (Wakes.Lane j) h = refl
-cut-found end past Wakes.None h = rw (le-ltb past end h)
+-- a search in two parts, of which only the first counts: it ends at `end`, and the whole one not before
+first-part : (end past : ℕ) (first second : Wakes) → ((j : ℕ) → first ≡ Wakes.Lane j → j < end) → ((j : ℕ) → second ≡ Wakes.Lane j → end ≤ j) → end ≤ past
+    → laneBelow end (laneOr past (orElse first second)) ≡ first
+first-part end past (Wakes.Lane j) second below above h = rw (lt-ltb j end (below j refl))
+first-part end past Wakes.None (Wakes.Lane j) below above h = rw (le-ltb j end (above j refl))
+first-part end past Wakes.None Wakes.None below above h = rw (le-ltb past end h)
 
 -- the trailing zeros of the word from lane `start` to the end of its 64 lanes tell the first flagged lane of those up to `end`
-pub in-word : (flags : List ℕ) (start end lane : ℕ) → start < end → end ≤ start / 64 * 64 + 64 → lane ≡ start + trailingZeros 64 (word flags start (64 - start % 64))
-    → laneBelow end lane ≡ firstRaised flags start (end - start)
-in-word flags start end lane above most e =
+pub in-word : (flags : List ℕ) (start end : ℕ) → start < end → end ≤ start / 64 * 64 + 64
+    → laneBelow end (start + trailingZeros 64 (word flags start (64 - start % 64))) ≡ firstRaised flags start (end - start)
+in-word flags start end above most =
     let count = 64 - start % 64 in
-    let lanes : count ≡ (end - start) + (count - (end - start)) = omega arith in
+    let n = end - start in
+    let more = count - n in
+    let lanes : n + more ≡ count = omega arith in
     let width : count + start % 64 ≡ 64 = omega arith in
-    let last : start + (end - start) ≡ end = omega arith in
+    let last : start + n ≡ end = omega arith in
     let zeros : start + trailingZeros 64 (word flags start count) ≡ laneOr (start + 64) (firstRaised flags start count) = rw width at (trailing-lane flags start count (start % 64)) in
-    let cuts : firstRaised flags start (end - start) ≡ cut end (firstRaised flags start count) = rw (last, ← lanes) at (first-cut flags start (end - start) (count - (end - start))) in
-    rw (e, zeros, cuts) (cut-found end (start + 64) (firstRaised flags start count) (omega arith))
+    let parts : firstRaised flags start count ≡ orElse (firstRaised flags start n) (firstRaised flags end more) = rw (lanes, last) at (first-split flags start n more) in
+    rw (zeros, parts)
+    (first-part end (start + 64) (firstRaised flags start n) (firstRaised flags end more) (λ j e. let f = first-found flags start n j e in omega (arith, f .high)) (λ j e. first-found flags end more j e .low) (omega arith))
+
+-- the search among all 128 lanes by the two words: what the low one tells, else what the high one tells, with its 64
+pub two-words : (flags : List ℕ) → firstRaised flags 0 128 ≡ orElse (laneBelow 64 (trailingZeros 64 (word flags 0 64))) (laneBelow 128 (64 + trailingZeros 64 (word flags 64 64)))
+two-words flags =
+    let from-0 : 0 + trailingZeros 64 (word flags 0 64) ≡ trailingZeros 64 (word flags 0 64) = omega arith in
+    let low : laneBelow 64 (trailingZeros 64 (word flags 0 64)) ≡ firstRaised flags 0 64 = rw from-0 at (in-word flags 0 64 (omega arith) (omega arith)) in
+    rw (low, in-word flags 64 128 (omega arith) (omega arith)) (first-split flags 0 64 64)

@@ -1,5 +1,5 @@
 // The waitlist: whether another lane has its flag up, and which lane a release wakes.
-ghost use Prim.Native.Nat.{min};
+ghost use Prim.Native.Nat.{_<_, min};
 ghost use mathlib.Core.Path.{_≡_};
 ghost use lib.Dec.{eqb};
 ghost use lib.ListN.{getD, length, set};
@@ -22,24 +22,15 @@ fn index(lane: u8) -> usize
     lane as usize
 }
 
-// The flag of lane i; a lane past the row has none up.
-fn flag_at(flags: &[u8], i: usize) -> u8
-    ensures { λ r. ⌜ r ≡ getD (now (flags .entry)) i 0 ⌝ }
-{
-    if i < flags.len() {
-        return flags[i];
-    }
-    0
-}
-
 // The flag of lane i where lane `own` has its flag down.
 fn flag_but(flags: &[u8], i: usize, own: usize) -> u8
+    requires { ⌜ i < length (now flags) ⌝ }
     ensures { λ r. ⌜ r ≡ getD (set (now (flags .entry)) own 0) i 0 ⌝ }
 {
     if i == own {
         return 0;
     }
-    flag_at(flags, i)
+    flags[i]
 }
 
 // Whether all flags of a row but one are 0.
@@ -73,7 +64,7 @@ fn least(a: usize, b: usize) -> usize
     b
 }
 
-// The end of the lanes that have a flag: past the row none is up, whatever the number of lanes is.
+// How many lanes are searched: those of the line, but no more than the row has flags.
 fn end_of(lanes: u8, flags: &[u8]) -> usize
     ensures { λ r. ⌜ r ≡ min lanes (length (now (flags .entry))) ⌝ }
 {
@@ -81,18 +72,18 @@ fn end_of(lanes: u8, flags: &[u8]) -> usize
 }
 
 // The next lane once the releaser's flag is down: the first flagged one after the releaser, upwards, then from 0 up to it.
-// The releaser's own flag is not looked at, so that it does not matter whether it is down yet.
+// The releaser's own flag does not count, so that it does not matter whether it is down yet: the first search leaves it out, and the second ends below it.
 pub fn next_lane(lanes: u8, flags: &[u8; MOST_LANES], releaser: u8) -> Wakes
     ensures { λ r. ⌜ r ≡ nextLane lanes (set (now (flags .entry)) releaser 0) releaser ⌝ }
 {
     let end = end_of(lanes, flags);
     let own = index(releaser);
-    let above = words::first_flagged(flags, own + 1, end);
+    let above = words::first_raised(flags, own + 1, end);
     if above < end {
         return Wakes::Lane(above as u8);
     }
     let below = least(own, end);
-    let first = words::first_flagged(flags, 0, below);
+    let first = words::first_raised(flags, 0, below);
     if first < below {
         return Wakes::Lane(first as u8);
     }

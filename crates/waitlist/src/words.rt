@@ -1,4 +1,4 @@
-// The flags as two words of 64 digits, gathered 16 flags at a time, and the first flagged lane by the count of a word's trailing zeros.
+// The flags as two words of 64 bits, gathered 16 flags at a time, and the first flagged lane by the count of a word's trailing zeros.
 ghost use Prim.Native.Nat.{_+_, _-_, _*_, _%_, _≤_, _<_};
 ghost use mathlib.Core.Path.{_≡_};
 ghost use lib.Count.{trailingZeros};
@@ -8,9 +8,8 @@ ghost use Rattle.waitlist.specs.Words.{laneOr, word};
 use super::least;
 use limits::MOST_LANES;
 
-// The flags of 1, 2, 4, 8 and 16 lanes from lane i upwards, each put together from two halves, the higher one first: of this form the compiler makes three
-// instructions for 16 flags. A flag is up where it is 1 and no other number.
-fn one(flags: &[u8; MOST_LANES], i: usize) -> u32
+// The word of lane i's flag alone: a flag is up where it is 1 and no other number.
+fn word_1(flags: &[u8; MOST_LANES], i: usize) -> u32
     requires { ⌜ i + 1 ≤ mostLanes ⌝ }
     ensures { λ r. ⌜ r ≡ word (now (flags .entry)) i 1 ⌝ }
 {
@@ -20,51 +19,53 @@ fn one(flags: &[u8; MOST_LANES], i: usize) -> u32
     0
 }
 
-fn two(flags: &[u8; MOST_LANES], i: usize) -> u32
+// The words of 2, 4, 8 and 16 flags from lane i upwards, each put together from two halves, the higher one first: of this form the compiler makes three
+// instructions for 16 flags.
+fn word_2(flags: &[u8; MOST_LANES], i: usize) -> u32
     requires { ⌜ i + 2 ≤ mostLanes ⌝ }
     ensures { λ r. ⌜ r ≡ word (now (flags .entry)) i 2 ⌝ }
 {
-    one(flags, i + 1) * 2 + one(flags, i)
+    word_1(flags, i + 1) * 2 + word_1(flags, i)
 }
 
-fn four(flags: &[u8; MOST_LANES], i: usize) -> u32
+fn word_4(flags: &[u8; MOST_LANES], i: usize) -> u32
     requires { ⌜ i + 4 ≤ mostLanes ⌝ }
     ensures { λ r. ⌜ r ≡ word (now (flags .entry)) i 4 ⌝ }
 {
-    two(flags, i + 2) * 4 + two(flags, i)
+    word_2(flags, i + 2) * 4 + word_2(flags, i)
 }
 
-fn eight(flags: &[u8; MOST_LANES], i: usize) -> u32
+fn word_8(flags: &[u8; MOST_LANES], i: usize) -> u32
     requires { ⌜ i + 8 ≤ mostLanes ⌝ }
     ensures { λ r. ⌜ r ≡ word (now (flags .entry)) i 8 ⌝ }
 {
-    four(flags, i + 4) * 16 + four(flags, i)
+    word_4(flags, i + 4) * 16 + word_4(flags, i)
 }
 
-fn sixteen(flags: &[u8; MOST_LANES], i: usize) -> u32
+fn word_16(flags: &[u8; MOST_LANES], i: usize) -> u32
     requires { ⌜ i + 16 ≤ mostLanes ⌝ }
     ensures { λ r. ⌜ r ≡ word (now (flags .entry)) i 16 ⌝ }
 {
-    eight(flags, i + 8) * 256 + eight(flags, i)
+    word_8(flags, i + 8) * 256 + word_8(flags, i)
 }
 
-// The flags of `count` times 16 lanes from lane `first` upwards: at most a word.
-fn gather(flags: &[u8; MOST_LANES], first: usize, count: usize) -> u64
-    requires { ⌜ count ≤ 4 ⌝ }
-    requires { ⌜ first + 16 * count ≤ mostLanes ⌝ }
-    ensures { λ r. ⌜ r ≡ word (now (flags .entry)) first (16 * count) ⌝ }
+// The word of `sixteens` times 16 flags from lane `first` upwards.
+fn gather(flags: &[u8; MOST_LANES], first: usize, sixteens: usize) -> u64
+    requires { ⌜ sixteens ≤ 4 ⌝ }
+    requires { ⌜ first + 16 * sixteens ≤ mostLanes ⌝ }
+    ensures { λ r. ⌜ r ≡ word (now (flags .entry)) first (16 * sixteens) ⌝ }
 {
     let mut gathered: u64 = 0;
     let mut i: usize = 0;
-    while i < count {
-        gathered += (sixteen(flags, first + 16 * i) as u64) << (16 * i);
+    while i < sixteens {
+        gathered += (word_16(flags, first + 16 * i) as u64) << (16 * i);
         i += 1;
     }
     gathered
 }
 
-// The first flagged lane from lane `start` to the end of its word: lanes 0 to 63 are one word, 64 to 127 the other. Where none is flagged, the lane 64 above
-// `start`, as 0 has 64 trailing zeros. What is gathered begins at a multiple of 16; the shift leaves out the lanes below `start`.
+// The first flagged lane from `start` to the end of its word, which has lanes 0 to 63 or 64 to 127; `start` plus 64 where none is, as 0 has 64 trailing zeros.
+// What is gathered begins at a multiple of 16; the shift leaves out the lanes below `start`.
 fn first_in_word(flags: &[u8; MOST_LANES], start: usize) -> usize
     requires { ⌜ start < mostLanes ⌝ }
     ensures { λ r. ⌜ r ≡ start + trailingZeros 64 (word (now (flags .entry)) start (64 - start % 64)) ⌝ }
@@ -74,7 +75,7 @@ fn first_in_word(flags: &[u8; MOST_LANES], start: usize) -> usize
 }
 
 // The first flagged lane from `start` up to, and not including, `end`; `end` where none is flagged. The second word is gathered only where the first has none.
-pub fn first_flagged(flags: &[u8; MOST_LANES], start: usize, end: usize) -> usize
+pub fn first_raised(flags: &[u8; MOST_LANES], start: usize, end: usize) -> usize
     requires { ⌜ end ≤ mostLanes ⌝ }
     ensures { λ r. ⌜ r ≡ laneOr end (firstRaised (now (flags .entry)) start (end - start)) ⌝ }
 {

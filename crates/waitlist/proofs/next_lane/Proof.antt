@@ -2,6 +2,7 @@
 use Prim.Native.Nat.{ℕ, _+_, _-_, _≤_, _<_, min}
 use mathlib.Core.Path.{_≡_}
 use mathlib.Core.List.{List}
+use native.Mathlib.Nat.{sub-zero}
 use lib.ListN.{length, set}
 use borrow.Author.Needs.{needs}
 use borrow.Author.Tests.{le-ltb, lt-ltb}
@@ -21,7 +22,7 @@ module _ (lanes : ℕ) (flags : List ℕ) (releaser end own above : ℕ) (to : e
   none-above : (below lane : ℕ) → end ≤ above → below ≡ min own end → lane ≡ laneOr below (firstRaised flags 0 (below - 0))
       → laneBelow below lane ≡ nextLane lanes (set flags releaser 0) releaser
   none-above below lane none under second =
-      rw (next-in-row flags lanes releaser, ← to, ← of, ← lane-found flags (own + 1) end above first, le-ltb above end none, ← under, ← lane-found flags 0 below lane second)
+      rw (next-in-row flags lanes releaser, ← to, ← of, ← lane-found flags (own + 1) end above first, le-ltb above end none, ← under) (rw (sub-zero) at (lane-found flags 0 below lane second))
 
 returns : tie.Need-returns
 returns c =
@@ -29,21 +30,21 @@ returns c =
     let own = found .before in
     let end = own .before in
     let a = end .before .before .args in
-    found-above (a .lanes) (a .flags .now) (a .releaser) _ _ _ (end .end-of .ensures) (own .index .ensures) (found .first-flagged .ensures) (c .if1 .taken)
+    found-above (a .lanes) (a .flags .now) (a .releaser) _ _ _ (end .end-of .ensures) (own .index .ensures) (found .first-raised .ensures) (c .if1 .taken)
 
 -- the second search, once the first has found none
-below : (c : tie.After-first-flagged2)
-    → laneBelow (c .before .least .result) (c .first-flagged2 .result)
-    ≡ nextLane (c .before .before .before .before .before .before .before .args .lanes)
-    (set (c .before .before .before .before .before .before .before .args .flags .now) (c .before .before .before .before .before .before .before .args .releaser) 0)
-    (c .before .before .before .before .before .before .before .args .releaser)
+abbrev start : tie.After-first-raised2 → tie.Start
+start c = c .before .before .before .before .before .before .before
+
+below : (c : tie.After-first-raised2)
+    → laneBelow (c .before .least .result) (c .first-raised2 .result) ≡ nextLane (start c .args .lanes) (set (start c .args .flags .now) (start c .args .releaser) 0) (start c .args .releaser)
 below c =
     let least = c .before in
     let found = least .before .before in
     let own = found .before in
     let end = own .before in
-    let a = end .before .before .args in
-    none-above (a .lanes) (a .flags .now) (a .releaser) _ _ _ (end .end-of .ensures) (own .index .ensures) (found .first-flagged .ensures) _ _ (least .before .if1 .left) (least .least .ensures) (c .first-flagged2 .ensures)
+    let a = start c .args in
+    none-above (a .lanes) (a .flags .now) (a .releaser) _ _ _ (end .end-of .ensures) (own .index .ensures) (found .first-raised .ensures) _ _ (least .before .if1 .left) (least .least .ensures) (c .first-raised2 .ensures)
 
 returns-2 : tie.Need-returns-2
 returns-2 c = rw (lt-ltb _ _ (c .if2 .taken)) at (below (c .before))

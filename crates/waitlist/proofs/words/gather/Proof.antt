@@ -1,4 +1,4 @@
--- `gather` meets its contract. The invariant: what is gathered are the flags of the first `i` times 16 lanes.
+-- `gather` meets its contract. The invariant: what is gathered is the word of the first `i` times 16 flags.
 use Prim.Native.Nat.{ℕ, _+_, _-_, _*_, _%_, _^_, _≤_, _<_}
 use mathlib.Core.Path.{_≡_, refl}
 use mathlib.Core.List.{List}
@@ -11,15 +11,15 @@ use Rattle.waitlist.proofs.WordLaws.{gathered-lt, word-split}
 use Rattle.waitlist.proofs.words.gather.Statement.{statement}
 use Rattle.waitlist.proofs.words.gather.Tie as tie
 
-record Gathered (flags : List ℕ) (first count gathered i : ℕ) : Type 0 where
-  to : i ≤ count
+record Gathered (flags : List ℕ) (first sixteens gathered i : ℕ) : Type 0 where
+  to : i ≤ sixteens
   got : gathered ≡ word flags first (16 * i)
 
 abbrev Inv-loop : tie.InvT-loop
-Inv-loop flags first count gathered₀ i₀ gathered i = Gathered flags first count gathered i
+Inv-loop flags first sixteens gathered₀ i₀ gathered i = Gathered flags first sixteens gathered i
 
 abbrev μ-loop : tie.MeasureT-loop
-μ-loop flags first count gathered₀ i₀ gathered i = count - i
+μ-loop flags first sixteens gathered₀ i₀ gathered i = sixteens - i
 
 -- 16 flags more, above those that are gathered
 sixteen-more : (flags : List ℕ) (first i n s : ℕ) → i < 4 → n ≡ word flags first (16 * i) → s ≡ word flags (first + 16 * i) 16
@@ -34,12 +34,12 @@ unfolding word
 loop-holds c = record { to = omega arith; got = refl }
 
 -- what is gathered with the 16 flags of a round of the loop
-round : (c : tie.After-sixteen Inv-loop μ-loop)
-    → c .before .before .loop .gathered + c .sixteen .result * 2 ^ (16 * c .before .before .loop .i) % 2 ^ 64
+round : (c : tie.After-word-16 Inv-loop μ-loop)
+    → c .before .before .loop .gathered + c .word-16 .result * 2 ^ (16 * c .before .before .loop .i) % 2 ^ 64
     ≡ word (c .before .before .before .args .flags .now) (c .before .before .before .args .first) (16 * (c .before .before .loop .i + 1))
 round c =
     let start = c .before .before .before in
-    sixteen-more _ _ _ _ _ (omega (arith, c .before .loop-test .taken, start .pre)) (c .before .before .loop .inv .got) (c .sixteen .ensures)
+    sixteen-more _ _ _ _ _ (omega (arith, c .before .loop-test .taken, start .pre)) (c .before .before .loop .inv .got) (c .word-16 .ensures)
 
 add-gathered : tie.Need-add-gathered Inv-loop μ-loop
 add-gathered c = record { fits = gathered-lt _ _ _ _ 64 (omega (arith, c .before .loop-test .taken, c .before .before .before .pre)) (round c) }
@@ -50,7 +50,7 @@ loop-again c = record { to = omega (arith, c .before .loop-test .taken); got = r
 returns : tie.Need-returns Inv-loop μ-loop
 returns c =
     let inv = c .before .loop .inv in
-    let all : c .before .before .args .count ≡ c .before .loop .i = omega (arith, inv .to, c .loop-test .left) in
+    let all : c .before .before .args .sixteens ≡ c .before .loop .i = omega (arith, inv .to, c .loop-test .left) in
     rw all (inv .got)
 
 pub gather-spec : {M : Type 1} → statement M

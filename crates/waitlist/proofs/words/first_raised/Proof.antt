@@ -1,4 +1,4 @@
--- `first_flagged` meets its contract. The invariant: the search of the lanes that are left gives what the whole search gives.
+-- `first_raised` meets its contract. The invariant: the search of the lanes that are left gives what the whole search gives.
 use Prim.Native.Nat.{ℕ, _+_, _-_, _≤_, _<_}
 use mathlib.Core.Path.{_≡_, refl, sym, _∙_}
 use mathlib.Core.List.{List}
@@ -8,11 +8,10 @@ use borrow.Author.Tests.{le-ltb, lt-ltb}
 use Rattle.waitlist.specs.declared.Wakes.{Wakes}
 use Rattle.waitlist.specs.NextLane.{firstRaised}
 use Rattle.waitlist.specs.Words.{laneOr}
-use Rattle.waitlist.proofs.Laws.{first-end}
-use Rattle.waitlist.proofs.Lowered.{first-split}
+use Rattle.waitlist.proofs.Lowered.{first-end, first-split}
 use Rattle.waitlist.proofs.WordLaws.{in-word, laneBelow}
-use Rattle.waitlist.proofs.words.first_flagged.Statement.{statement}
-use Rattle.waitlist.proofs.words.first_flagged.Tie as tie
+use Rattle.waitlist.proofs.words.first_raised.Statement.{statement}
+use Rattle.waitlist.proofs.words.first_raised.Tie as tie
 
 abbrev Inv-loop : tie.InvT-loop
 Inv-loop flags start end from₀ from = firstRaised flags from (end - from) ≡ firstRaised flags from₀ (end - from₀)
@@ -45,7 +44,7 @@ in-round : (c : tie.After-first-in-word Inv-loop μ-loop)
     ≡ firstRaised (c .before .before .before .before .args .flags .now) (c .before .before .before .loop .from) (c .before .least .result - c .before .before .before .loop .from)
 in-round c =
     let last = c .before .least .ensures in
-    in-word _ _ _ _ (omega (arith, last, c .before .before .loop-test .taken)) (omega (arith, last)) (c .first-in-word .ensures)
+    rw (c .first-in-word .ensures) (in-word _ _ _ (omega (arith, last, c .before .before .loop-test .taken)) (omega (arith, last)))
 
 returns : tie.Need-returns Inv-loop μ-loop
 returns c =
@@ -66,8 +65,8 @@ loop-again c =
 returns-2 : tie.Need-returns-2 Inv-loop μ-loop
 returns-2 c = rw (← c .before .loop .inv, first-end _ _ _ (c .loop-test .left))
 
-pub first-flagged-spec : {M : Type 1} → statement M
-first-flagged-spec =
+pub first-raised-spec : {M : Type 1} → statement M
+first-raised-spec =
     tie.close
     (tie.spec
     Inv-loop
