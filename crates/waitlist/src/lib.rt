@@ -72,20 +72,15 @@ fn end_of(lanes: u8, flags: &[u8]) -> usize
 }
 
 // The next lane once the releaser's flag is down: the first flagged one after the releaser, upwards, then from 0 up to it.
-// The releaser's own flag does not count, so that it does not matter whether it is down yet: the first search leaves it out, and the second ends below it.
+// The releaser's own flag does not count, so that it does not matter whether it is down yet: no search comes to it.
 pub fn next_lane(lanes: u8, flags: &[u8; MOST_LANES], releaser: u8) -> Wakes
     ensures { λ r. ⌜ r ≡ nextLane lanes (set (now (flags .entry)) releaser 0) releaser ⌝ }
 {
     let end = end_of(lanes, flags);
     let own = index(releaser);
-    let above = words::first_raised(flags, own + 1, end);
-    if above < end {
-        return Wakes::Lane(above as u8);
-    }
-    let below = least(own, end);
-    let first = words::first_raised(flags, 0, below);
-    if first < below {
-        return Wakes::Lane(first as u8);
+    let lane = words::first_raised(flags, own + 1, end, least(own, end));
+    if lane < MOST_LANES {
+        return Wakes::Lane(lane as u8);
     }
     Wakes::None
 }

@@ -3,7 +3,7 @@ ghost use Prim.Native.Nat.{_+_, _-_, _*_, _%_, _≤_, _<_};
 ghost use mathlib.Core.Path.{_≡_};
 ghost use lib.Count.{trailingZeros};
 ghost use Rattle.limits.specs.Limits.{mostLanes};
-ghost use Rattle.waitlist.specs.NextLane.{firstRaised};
+ghost use Rattle.waitlist.specs.NextLane.{firstRaised, orElse};
 ghost use Rattle.waitlist.specs.Words.{laneOr, word};
 use super::least;
 use limits::MOST_LANES;
@@ -74,19 +74,23 @@ fn first_in_word(flags: &[u8; MOST_LANES], start: usize) -> usize
     start + u64::trailing_zeros(gathered >> (start % 16)) as usize
 }
 
-// The first flagged lane from `start` up to, and not including, `end`; `end` where none is flagged. The second word is gathered only where the first has none.
-pub fn first_raised(flags: &[u8; MOST_LANES], start: usize, end: usize) -> usize
+// The first flagged lane from `start` up to, and not including, `end`; where none is, the first from 0 up to `rest`; MOST_LANES where none is there either.
+// It calls itself for the next word, of which the compiler makes a loop: a word is gathered only where the one before it has no flag.
+pub fn first_raised(flags: &[u8; MOST_LANES], start: usize, end: usize, rest: usize) -> usize
     requires { ⌜ end ≤ mostLanes ⌝ }
-    ensures { λ r. ⌜ r ≡ laneOr end (firstRaised (now (flags .entry)) start (end - start)) ⌝ }
+    requires { ⌜ rest ≤ mostLanes ⌝ }
+    ensures { λ r. ⌜ r ≡ laneOr mostLanes (orElse (firstRaised (now (flags .entry)) start (end - start)) (firstRaised (now (flags .entry)) 0 rest)) ⌝ }
 {
-    let mut from = start;
-    while from < end {
-        let last = least(from / 64 * 64 + 64, end);
-        let lane = first_in_word(flags, from);
-        if lane < last {
-            return lane;
+    if end <= start {
+        if rest == 0 {
+            return MOST_LANES;
         }
-        from = last;
+        return first_raised(flags, 0, rest, 0);
     }
-    end
+    let last = least(start / 64 * 64 + 64, end);
+    let lane = first_in_word(flags, start);
+    if lane < last {
+        return lane;
+    }
+    first_raised(flags, last, end, rest)
 }

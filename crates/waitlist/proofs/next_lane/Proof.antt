@@ -1,56 +1,49 @@
--- `next_lane` meets its contract: the second search counts where the first finds nothing, and ends below the releaser.
+-- `next_lane` meets its contract: the search above the releaser, then below it, is that of the definition, and finds lanes that have a flag alone.
 use Prim.Native.Nat.{ℕ, _+_, _-_, _≤_, _<_, min}
 use mathlib.Core.Path.{_≡_}
 use mathlib.Core.List.{List}
-use native.Mathlib.Nat.{sub-zero}
+use native.Mathlib.Omega.{arith}
 use lib.ListN.{length, set}
 use borrow.Author.Needs.{needs}
 use borrow.Author.Tests.{le-ltb, lt-ltb}
 use Rattle.waitlist.specs.declared.Wakes.{Wakes}
-use Rattle.waitlist.specs.NextLane.{firstRaised, nextLane}
+use Rattle.waitlist.specs.NextLane.{firstRaised, nextLane, orElse}
 use Rattle.waitlist.specs.Words.{laneOr}
+use Rattle.waitlist.proofs.Laws.{or-else}
 use Rattle.waitlist.proofs.Lowered.{next-in-row}
+use Rattle.waitlist.proofs.Nearest.{first-found}
 use Rattle.waitlist.proofs.WordLaws.{lane-found, laneBelow}
 use Rattle.waitlist.proofs.next_lane.Statement.{statement}
 use Rattle.waitlist.proofs.next_lane.Tie as tie
 
-module _ (lanes : ℕ) (flags : List ℕ) (releaser end own above : ℕ) (to : end ≡ min lanes (length flags)) (of : own ≡ releaser)
-    (first : above ≡ laneOr end (firstRaised flags (own + 1) (end - (own + 1)))) where
-  found-above : above < end → Wakes.Lane above ≡ nextLane lanes (set flags releaser 0) releaser
-  found-above some = rw (next-in-row flags lanes releaser, ← to, ← of, ← lane-found flags (own + 1) end above first, lt-ltb above end some)
+module _ (flags : List ℕ) (start end rest : ℕ) (most-end : end ≤ 128) (most-rest : rest ≤ 128) where
+  below-128 : (j : ℕ) → orElse (firstRaised flags start (end - start)) (firstRaised flags 0 rest) ≡ Wakes.Lane j → j < 128
+  below-128 j =
+      or-else (λ k. k < 128) (firstRaised flags start (end - start)) (firstRaised flags 0 rest) j
+      (λ k e. let f = first-found flags start (end - start) k e in omega (arith, f .low, f .high))
+      (λ k e. omega (arith, first-found flags 0 rest k e .high))
 
-  none-above : (below lane : ℕ) → end ≤ above → below ≡ min own end → lane ≡ laneOr below (firstRaised flags 0 (below - 0))
-      → laneBelow below lane ≡ nextLane lanes (set flags releaser 0) releaser
-  none-above below lane none under second =
-      rw (next-in-row flags lanes releaser, ← to, ← of, ← lane-found flags (own + 1) end above first, le-ltb above end none, ← under) (rw (sub-zero) at (lane-found flags 0 below lane second))
+next-told : (lanes : ℕ) (flags : List ℕ) (releaser end own rest lane : ℕ) → end ≡ min lanes (length flags) → end ≤ 128 → own ≡ releaser → rest ≡ min own end
+    → lane ≡ laneOr 128 (orElse (firstRaised flags (own + 1) (end - (own + 1))) (firstRaised flags 0 rest)) → laneBelow 128 lane ≡ nextLane lanes (set flags releaser 0) releaser
+next-told lanes flags releaser end own rest lane to most of under told =
+    rw (next-in-row flags lanes releaser, ← to, ← of, ← under)
+    (lane-found 128 lane (orElse (firstRaised flags (own + 1) (end - (own + 1))) (firstRaised flags 0 rest)) (below-128 flags (own + 1) end rest most (omega arith)) told)
+
+abbrev start : tie.After-first-raised → tie.Start
+start c = c .before .before .before .before .before
+
+told : (c : tie.After-first-raised)
+    → laneBelow 128 (c .first-raised .result) ≡ nextLane (start c .args .lanes) (set (start c .args .flags .now) (start c .args .releaser) 0) (start c .args .releaser)
+told c =
+    let own = c .before .before in
+    let end = own .before in
+    next-told (start c .args .lanes) (start c .args .flags .now) (start c .args .releaser) _ _ _ _ (end .end-of .ensures) (omega (arith, end .end-of .ensures, end .before .end-of-arg .given .0)) (own .index .ensures) (c .before .least .ensures) (c .first-raised .ensures)
 
 returns : tie.Need-returns
-returns c =
-    let found = c .before in
-    let own = found .before in
-    let end = own .before in
-    let a = end .before .before .args in
-    found-above (a .lanes) (a .flags .now) (a .releaser) _ _ _ (end .end-of .ensures) (own .index .ensures) (found .first-raised .ensures) (c .if1 .taken)
-
--- the second search, once the first has found none
-abbrev start : tie.After-first-raised2 → tie.Start
-start c = c .before .before .before .before .before .before .before
-
-below : (c : tie.After-first-raised2)
-    → laneBelow (c .before .least .result) (c .first-raised2 .result) ≡ nextLane (start c .args .lanes) (set (start c .args .flags .now) (start c .args .releaser) 0) (start c .args .releaser)
-below c =
-    let least = c .before in
-    let found = least .before .before in
-    let own = found .before in
-    let end = own .before in
-    let a = start c .args in
-    none-above (a .lanes) (a .flags .now) (a .releaser) _ _ _ (end .end-of .ensures) (own .index .ensures) (found .first-raised .ensures) _ _ (least .before .if1 .left) (least .least .ensures) (c .first-raised2 .ensures)
+returns c = rw (lt-ltb _ _ (c .if1 .taken)) at (told (c .before))
 
 returns-2 : tie.Need-returns-2
-returns-2 c = rw (lt-ltb _ _ (c .if2 .taken)) at (below (c .before))
-
-returns-3 : tie.Need-returns-3
-returns-3 c = rw (le-ltb _ _ (c .if2 .left)) at (below (c .before))
+returns-2 c = rw (le-ltb _ _ (c .if1 .left)) at (told (c .before))
 
 pub next-lane-spec : {M : Type 1} → statement M
 next-lane-spec =
@@ -60,10 +53,7 @@ next-lane-spec =
     (λ c κs. search needs)
     (λ c. search needs)
     (λ c κs. search needs)
+    (λ c κs. search needs)
     (λ c. search needs)
     returns
-    (λ c κs. search needs)
-    (λ c κs. search needs)
-    (λ c. search needs)
-    returns-2
-    returns-3)
+    returns-2)
