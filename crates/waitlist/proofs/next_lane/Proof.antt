@@ -6,6 +6,7 @@ use native.Mathlib.Omega.{arith}
 use lib.ListN.{length, set}
 use borrow.Author.Needs.{needs}
 use borrow.Author.Tests.{le-ltb, lt-ltb}
+use Rattle.limits.specs.Limits.{mostLanes}
 use Rattle.waitlist.specs.declared.Wakes.{Wakes}
 use Rattle.waitlist.specs.NextLane.{firstRaised, nextLane, orElse}
 use Rattle.waitlist.specs.Words.{laneOr}
@@ -16,24 +17,25 @@ use Rattle.waitlist.proofs.WordLaws.{lane-found, laneBelow}
 use Rattle.waitlist.proofs.next_lane.Statement.{statement}
 use Rattle.waitlist.proofs.next_lane.Tie as tie
 
-module _ (flags : List ℕ) (start end rest : ℕ) (most-end : end ≤ 128) (most-rest : rest ≤ 128) where
-  below-128 : (j : ℕ) → orElse (firstRaised flags start (end - start)) (firstRaised flags 0 rest) ≡ Wakes.Lane j → j < 128
-  below-128 j =
-      or-else (λ k. k < 128) (firstRaised flags start (end - start)) (firstRaised flags 0 rest) j
-      (λ k e. let f = first-found flags start (end - start) k e in omega (arith, f .low, f .high))
-      (λ k e. omega (arith, first-found flags 0 rest k e .high))
+-- a lane that one of the two searches finds is below the most lanes, which tells it from none
+below-most : (flags : List ℕ) (start end rest : ℕ) → end ≤ mostLanes → rest ≤ mostLanes → (j : ℕ) → orElse (firstRaised flags start (end - start)) (firstRaised flags 0 rest) ≡ Wakes.Lane j → j < mostLanes
+below-most flags start end rest to-end to-rest j =
+    or-else (λ k. k < mostLanes) (firstRaised flags start (end - start)) (firstRaised flags 0 rest) j
+    (λ k e. let f = first-found flags start (end - start) k e in omega (arith, f .low, f .high))
+    (λ k e. omega (arith, first-found flags 0 rest k e .high))
 
-next-told : (lanes : ℕ) (flags : List ℕ) (releaser end own rest lane : ℕ) → end ≡ min lanes (length flags) → end ≤ 128 → own ≡ releaser → rest ≡ min own end
-    → lane ≡ laneOr 128 (orElse (firstRaised flags (own + 1) (end - (own + 1))) (firstRaised flags 0 rest)) → laneBelow 128 lane ≡ nextLane lanes (set flags releaser 0) releaser
+-- what the two searches tell is the next lane
+next-told : (lanes : ℕ) (flags : List ℕ) (releaser end own rest lane : ℕ) → end ≡ min lanes (length flags) → end ≤ mostLanes → own ≡ releaser → rest ≡ min own end
+    → lane ≡ laneOr mostLanes (orElse (firstRaised flags (own + 1) (end - (own + 1))) (firstRaised flags 0 rest)) → laneBelow mostLanes lane ≡ nextLane lanes (set flags releaser 0) releaser
 next-told lanes flags releaser end own rest lane to most of under told =
     rw (next-in-row flags lanes releaser, ← to, ← of, ← under)
-    (lane-found 128 lane (orElse (firstRaised flags (own + 1) (end - (own + 1))) (firstRaised flags 0 rest)) (below-128 flags (own + 1) end rest most (omega arith)) told)
+    (lane-found mostLanes lane (orElse (firstRaised flags (own + 1) (end - (own + 1))) (firstRaised flags 0 rest)) (below-most flags (own + 1) end rest most (omega arith)) told)
 
 abbrev start : tie.After-first-raised → tie.Start
 start c = c .before .before .before .before .before
 
 told : (c : tie.After-first-raised)
-    → laneBelow 128 (c .first-raised .result) ≡ nextLane (start c .args .lanes) (set (start c .args .flags .now) (start c .args .releaser) 0) (start c .args .releaser)
+    → laneBelow mostLanes (c .first-raised .result) ≡ nextLane (start c .args .lanes) (set (start c .args .flags .now) (start c .args .releaser) 0) (start c .args .releaser)
 told c =
     let own = c .before .before in
     let end = own .before in

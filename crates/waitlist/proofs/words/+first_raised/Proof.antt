@@ -9,6 +9,7 @@ use borrow.Author.Needs.{needs}
 use borrow.Author.Tests.{le-ltb, lt-ltb}
 use borrow.Fn.Kinds.{In}
 use borrow.Fn.PlainCycle.{Measures, is, falls, and}
+use Rattle.limits.specs.Limits.{mostLanes}
 use Rattle.waitlist.specs.declared.Wakes.{Wakes}
 use Rattle.waitlist.specs.NextLane.{firstRaised, orElse}
 use Rattle.waitlist.specs.Words.{laneOr, word}
@@ -29,12 +30,12 @@ module _ (flags : List ℕ) (start end rest : ℕ) where
   found = orElse (firstRaised flags start (end - start)) (firstRaised flags 0 rest)
 
   -- no lane is left
-  none-left : end ≤ start → rest ≡ 0 → 128 ≡ laneOr 128 found
+  none-left : end ≤ start → rest ≡ 0 → mostLanes ≡ laneOr mostLanes found
   unfolding firstRaised
   none-left last none = rw (first-end flags start end last, none)
 
   -- the lanes of the second search are left
-  rest-left : (lane : ℕ) → end ≤ start → lane ≡ laneOr 128 (orElse (firstRaised flags 0 (rest - 0)) (firstRaised flags 0 0)) → lane ≡ laneOr 128 found
+  rest-left : (lane : ℕ) → end ≤ start → lane ≡ laneOr mostLanes (orElse (firstRaised flags 0 (rest - 0)) (firstRaised flags 0 0)) → lane ≡ laneOr mostLanes found
   unfolding firstRaised
   rest-left lane last e = rw (first-end flags start end last) (rw (sub-zero rest, or-none (firstRaised flags 0 rest)) at e)
 
@@ -49,12 +50,12 @@ module _ (flags : List ℕ) (start end rest : ℕ) where
         let next : start + (last - start) ≡ last = omega arith in
         rw lanes (rw next at (first-split flags start (last - start) (end - last)))
 
-    word-found : lane < last → lane ≡ laneOr 128 found
+    word-found : lane < last → lane ≡ laneOr mostLanes found
     word-found below =
         let here : firstRaised flags start (last - start) ≡ Wakes.Lane lane = rw (lt-ltb lane last below) at (sym told) in
         rw (parts, here)
 
-    word-none : (later : ℕ) → last ≤ lane → later ≡ laneOr 128 (orElse (firstRaised flags last (end - last)) (firstRaised flags 0 rest)) → later ≡ laneOr 128 found
+    word-none : (later : ℕ) → last ≤ lane → later ≡ laneOr mostLanes (orElse (firstRaised flags last (end - last)) (firstRaised flags 0 rest)) → later ≡ laneOr mostLanes found
     word-none later past more =
         let none : firstRaised flags start (last - start) ≡ Wakes.None = rw (le-ltb lane last past) at (sym told) in
         rw (parts, none) more
