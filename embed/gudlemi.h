@@ -56,7 +56,7 @@ extern "C" {
 #endif
 
 /* The version that this header is of: 10,000 for its first part, 100 for the second, 1 for the third. */
-#define GUDLEMI_VERSION 20000
+#define GUDLEMI_VERSION 20100
 
 /* The most lanes that a line can have, and the rows of a report that are for one lane each. */
 #define GUDLEMI_LANES 128

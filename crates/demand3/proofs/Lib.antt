@@ -6,4 +6,5 @@ pub mod Places
 pub mod Goes
 pub mod Theorem
 pub mod Longest
+pub mod Appended
 pub mod Sheets

@@ -8,13 +8,13 @@ use native.Mathlib.Omega.{arith}
 use native.Mathlib.Decide.{ℕ-discrete}
 use lib.ListN.{length, replicate, set, List·getD-map}
 use lib.Seq.{getD-set-other, getD-set-same}
-use lib.IntN.{pos}
+use lib.IntN.{ℤ, pos}
 use lib.Dec.{eqb, leb}
 use borrow.Author.Tests.{le-leb, le-ltb, leb-false, ne-eqb, not-false}
 use Rattle.lists.specs.Lists.{somePass}
 use Rattle.lists.proofs.Tests.{both, by-test, clash}
 use Rattle.lists.proofs.Counts.{all-from, all-set, any-count, count-one}
-use Rattle.view.specs.View.{blockRecord, endOfBook, inOrder, place, positionOf, viewOk}
+use Rattle.view.specs.View.{blockRecord, endOfBook, inOrder, place, positionOf, startingBelow, viewOk}
 use Rattle.view.specs.declared.Place.{Place}
 use Rattle.limits.specs.Limits.{mostLanes}
 use Rattle.line.specs.declared.Purpose.{Purpose}
@@ -44,7 +44,7 @@ use Rattle.steps.proofs.Release.{raised-up}
 use Rattle.steps.proofs.Chains.{atLane, enter-chain, free-chain, look-chain, open-chain, put-chain, read-chain, receive-chain, take-chain, want-chain, write-chain}
 use Rattle.printout.specs.Run.{run, runOn}
 use Rattle.printout.specs.Print.{answerLines, answerWords, decimalIn, linebook, words}
-use Rattle.edges.specs.Edges.{Alone, EnteredInOrder, Holder, Lane5Releases, LastReleases, OtherEdges, Release, StarredEdges, Waits, afterEvents, answerTo, answersTo, enter0, enter1, enter2, isSound, lane5By, lastBy, minus, phasesOf, plainBy, pointer10, pointer10By, pointer3By, reached, size24By, viewedBy, writers}
+use Rattle.edges.specs.Edges.{Alone, EnteredInOrder, Holder, Lane5Releases, LastReleases, OtherEdges, Release, StarredEdges, Waits, afterEvents, answerTo, answersTo, enter0, enter1, enter2, isSound, lane5By, lastBy, minus, phasesOf, plainBy, pointer10, pointer10By, pointer3By, reached, size24By, viewed24By, viewedBy, writers}
 
 -- ---- phases and answers
 turn-of : (y : Phase) → isFlagged y ≡ true → isWaiting y ≡ false → hasTurn y ≡ true
@@ -197,7 +197,7 @@ module _ (n : ℕ) (events : List Event) where
   answer-past-1 : (c : Call) → step (reached n events) c .answer ≡ stepPast1 reachedPast1 c .answer
   answer-past-1 c = ap (λ (r : Result). r .answer) (call-past-1 c)
 
-  answer-each : (f : ℕ → Event) (ks : List ℕ) → map (λ (k : ℕ). answerTo (reached n events) (f k)) ks ≡ map (λ (k : ℕ). stepPast1 reachedPast1 (given (f k)) .answer) ks
+  answer-each : {A : Type 0} (f : A → Event) (ks : List A) → map (λ k. answerTo (reached n events) (f k)) ks ≡ map (λ k. stepPast1 reachedPast1 (given (f k)) .answer) ks
   answer-each f [] = refl
   answer-each f (k ∷ ks) = rw (answer-past-1 (given (f k)), answer-each f ks)
 
@@ -308,7 +308,7 @@ starts-at-10 = ap (λ (x : State). x .line .pointer .0) (reached-past-1 120 poin
 
 -- ---- the table
 pub starred-edges : StarredEdges
-unfolding blockRecord endOfBook inOrder positionOf viewOk firstRaised nextLane bigEndian numberOf fieldsIn started stepPast1 callsPast1 afterPast1
+unfolding blockRecord endOfBook startingBelow inOrder positionOf viewOk firstRaised nextLane bigEndian numberOf fieldsIn started stepPast1 callsPast1 afterPast1
 starred-edges =
     record {
       alone-never-waits = never-waits;
@@ -330,9 +330,16 @@ starred-edges =
       bytes-back-4 = answer-past-1 64 pointer3By (callOf 0x0C (1 ∷ 0xFF ∷ 0xFF ∷ 0xFF ∷ 0xFC ∷ []));
       seek-most = answer-past-1 64 pointer3By (given (Event.Seek 0 (pos 65536)));
       seek-past = answer-past-1 64 pointer3By (given (Event.Seek 0 (pos 65537)));
+      view-24 = ap (λ (x : State). x .line .view) (reached-past-1 64 size24By);
       size-24 = ap (λ (x : State). x .line .size) (reached-past-1 64 size24By);
       seek-end = answer-past-1 64 size24By (given (Event.Seek 2 (pos 0)));
       pointer-end = ap (λ (r : Result). r .after .line .pointer) (call-past-1 64 size24By (given (Event.Seek 2 (pos 0))));
+      size-viewed = ap (λ (x : State). x .line .size) (reached-past-1 64 viewed24By);
+      seek-viewed = answer-each 64 viewed24By (λ (offset : ℤ). Event.Seek 2 offset) (pos 0 ∷ minus 2 ∷ minus 3 ∷ pos 65534 ∷ pos 65535 ∷ []);
+      counted-none = answers-past-1 64 viewed24By (Event.Want 0 2 ∷ Event.Look 0 (place 0) ∷ Event.Look 0 (place 1) ∷ []);
+      append-viewed =
+          λ content. answers-past-1 64 viewed24By
+          (Event.Seek 2 (pos 0) ∷ Event.Want 0 0 ∷ Event.Take 0 1 ∷ Event.Write 0 content ∷ Event.Seek 2 (pos 0) ∷ []);
       view-10 = ap (λ (x : State). x .line .view) (reached-past-1 120 pointer10By);
       pointer-10 = ap (λ (x : State). x .line .pointer) (reached-past-1 120 pointer10By);
       order-012 = order-012;

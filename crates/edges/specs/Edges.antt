@@ -3,7 +3,7 @@ use Prim.Native.Nat.{ℕ, _+_, _≤_}
 use mathlib.Core.Path.{_≡_}
 use mathlib.Core.Logic.{_≢_}
 use mathlib.Core.Bool.{Bool, true}
-use mathlib.Core.List.{List, [], _∷_, map}
+use mathlib.Core.List.{List, [], _∷_, _++_, map}
 use lib.ListN.{getD, length, replicate, take}
 use lib.IntN.{ℤ, pos, negℤ}
 use Rattle.lists.specs.Lists.{sumOf}
@@ -145,6 +145,13 @@ size24By = Event.Open 1 64 ∷ Event.Want 0 2 ∷ Event.Put 0 (place 2) 7 ∷ Ev
 abbrev pub size24 : State
 size24 = reached 64 size24By
 
+-- the same book in the view of the edge above
+abbrev pub viewed24By : List Event
+viewed24By = size24By ++ Event.View 4 5 2 twoBlocks ∷ []
+
+abbrev pub viewed24 : State
+viewed24 = reached 64 viewed24By
+
 -- plain view, capacity 120, N = 3, pointer 10
 abbrev pub pointer10By : List Event
 pointer10By = Event.Open 3 120 ∷ Event.Seek 0 (pos 10) ∷ []
@@ -220,10 +227,22 @@ pub record StarredEdges : Type 0 where
   -- "Whence 0: 65,536 is taken, 65,537 gives 15"
   pub seek-most : answerTo pointer3 (Event.Seek 0 (pos 65536)) ≡ Answer.Seek (place 65536)
   pub seek-past : answerTo pointer3 (Event.Seek 0 (pos 65537)) ≡ Answer.Refused 15
-  -- "Size 24, whence 2, offset 0: pointer 3"
+  -- "Size 24, whence 2, offset 0: pointer 3": in the plain view, "in which 01's edge of size 24 is read from now on" (Wish 4)
+  pub view-24 : size24 .line .view ≡ plainView
   pub size-24 : size24 .line .size ≡ 24
   pub seek-end : answerTo size24 (Event.Seek 2 (pos 0)) ≡ Answer.Seek (place 3)
   pub pointer-end : callEvent size24 (Event.Seek 2 (pos 0)) .after .line .pointer ≡ place 3
+  -- "In the view of 01's edge, with size 24, the count is 2, where size / 8 gave 3" (Wish 4); 15 looks at count plus offset
+  pub size-viewed : viewed24 .line .size ≡ 24
+  pub seek-viewed : map (λ (offset : ℤ). answerTo viewed24 (Event.Seek 2 offset)) (pos 0 ∷ minus 2 ∷ minus 3 ∷ pos 65534 ∷ pos 65535 ∷ [])
+      ≡ Answer.Seek (place 2) ∷ Answer.Seek (place 0) ∷ Answer.Refused 15 ∷ Answer.Seek (place 65536) ∷ Answer.Refused 15 ∷ []
+  -- places 0 and 1 count, by where their records start: that of place 1, at 20, ends past the size, and is none
+  pub counted-none : answersTo viewed24 (Event.Want 0 2 ∷ Event.Look 0 (place 0) ∷ Event.Look 0 (place 1) ∷ [])
+      ≡ Answer.Holds (place 0) ∷ Answer.Record 0 ∷ Answer.None ∷ []
+  -- an append: the record of the place that the seek gives lies past the size, and the end is then one further
+  pub append-viewed : (content : ℕ)
+      → answersTo viewed24 (Event.Seek 2 (pos 0) ∷ Event.Want 0 0 ∷ Event.Take 0 1 ∷ Event.Write 0 content ∷ Event.Seek 2 (pos 0) ∷ [])
+      ≡ Answer.Seek (place 2) ∷ Answer.Holds (place 2) ∷ Answer.Region (place 2) 1 Wakes.None ∷ Answer.Wrote (position 36) ∷ Answer.Seek (place 3) ∷ []
   -- "Plain view, capacity 120, N = 3, pointer 10, lanes 0, 1, 2 enter 2, 0, 3 in any order: starts 10, 12, 12, pointer 15"
   pub view-10 : pointer10 .line .view ≡ plainView
   pub pointer-10 : pointer10 .line .pointer ≡ place 10

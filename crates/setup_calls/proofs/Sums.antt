@@ -69,8 +69,8 @@ base-last (suc zero) pointer end a b = absurd (b refl)
 base-last (suc (suc k)) pointer end a b = refl
 
 -- where a seek goes, from the values that the functions give; `read` is the offset as the function that adds it reads it
-pub sought-is : (size : ℕ) (pointer : Place) (v : View) (whence : ℕ) (offset read : ℤ) (end base : Place) (o : Sought)
-    → end ≡ endOfBook v size → base ≡ baseOf whence pointer end → read ≡ offset → o ≡ soughtAt (pos (base .0) +ℤ read)
+pub sought-is : (size : ℕ) (pointer : Place) (v : View) (whence : ℕ) (offset read : ℤ) (base : Place) (o : Sought)
+    → base ≡ baseOf whence pointer (endOfBook v size) → read ≡ offset → o ≡ soughtAt (pos (base .0) +ℤ read)
     → o ≡ soughtAt (targetOf size pointer v whence offset)
-sought-is size pointer v whence offset read end base o ends based exact found =
-    found ∙ ap (λ (z : ℤ). soughtAt (pos (base .0) +ℤ z)) exact ∙ ap (λ (k : Place). soughtAt (pos (k .0) +ℤ offset)) (based ∙ ap (baseOf whence pointer) ends)
+sought-is size pointer v whence offset read base o based exact found =
+    found ∙ ap (λ (z : ℤ). soughtAt (pos (base .0) +ℤ z)) exact ∙ ap (λ (k : Place). soughtAt (pos (k .0) +ℤ offset)) based

@@ -1,6 +1,7 @@
 // The place that a seek asks for: a signed offset added to a base, exact over the integers.
 ghost use mathlib.Core.Path.{_≡_};
 ghost use lib.IntN.{pos, _+ℤ_};
+ghost use Rattle.view.specs.View.{endOfBook};
 ghost use Rattle.setup_calls.specs.Setup.{baseOf, placeOf, soughtAt, targetOf};
 use limits::MOST_POINTER;
 use view::Place;
@@ -15,9 +16,9 @@ pub enum Sought {
     Outside,
 }
 
-// "Whence 0: the offset; 1: pointer + offset; 2: size / 8 rounded down, plus offset": what the offset is added to.
-pub fn base(whence: u8, pointer: Place, end: Place) -> Place
-    ensures { λ r. ⌜ r ≡ baseOf whence pointer end ⌝ }
+// "Whence 0: the offset; 1: pointer + offset", 2: the end of the book in the view, plus offset (Wish 4): what the offset is added to.
+pub fn base(size: u32, pointer: Place, view: View, whence: u8) -> Place
+    ensures { λ r. ⌜ r ≡ baseOf whence pointer (endOfBook view size) ⌝ }
 {
     if whence == 0 {
         return Place(0);
@@ -25,7 +26,7 @@ pub fn base(whence: u8, pointer: Place, end: Place) -> Place
     if whence == 1 {
         return pointer;
     }
-    end
+    view.end_of_book(size)
 }
 
 // A place moved by a signed offset, where it stays in the pointer's range.
@@ -47,7 +48,7 @@ pub fn moved_by(base: u32, offset: i32) -> Sought
 pub fn seek_to(size: u32, pointer: Place, view: View, whence: u8, offset: i32) -> Sought
     ensures { λ r. ⌜ r ≡ soughtAt (targetOf size pointer view whence offset) ⌝ }
 {
-    let base = base(whence, pointer, view.end_of_book(size));
+    let base = base(size, pointer, view, whence);
     moved_by(base.0, offset)
 }
 

@@ -300,7 +300,7 @@ want-8 search x i purpose S some past = want-chain search x i purpose ∙ rw (S,
 
 -- ---- 0C: a negative offset takes its records off the pointer, and is refused below 0
 module _ (search : Search) (x : State) (n : ℕ) (S : sound (x .line) (length (x .book)) ≡ true) (some : 0 < x .line .lanes) (idle : allPass (on isIdle) (x .line .lane) ≡ true) where
-  seeks : (r : Result) → whenOpen x (cond false (refuse 9 x) (cond (not (allPass (on isIdle) (x .line .lane))) (refuse 11 x) r)) ≡ r
+  pub seeks : (r : Result) → whenOpen x (cond false (refuse 9 x) (cond (not (allPass (on isIdle) (x .line .lane))) (refuse 11 x) r)) ≡ r
   seeks r = rw (S, ne-eqb (x .line .lanes) 0 (λ z. omega arith), idle)
 
   pub seek-back : n < x .line .pointer .0 → x .line .pointer .0 ≤ mostPointer

@@ -7,6 +7,7 @@ pub mod Edges
 pub mod Release
 pub mod Ordered
 pub mod Keeps
+pub mod Appending
 pub mod Lanes
 pub mod PastFirst
 pub mod Numbers

@@ -184,7 +184,7 @@ viewOf displacement extent used blocks = record { displacement = displacement; e
 abbrev pub viewStep : State → View → Result
 viewStep x v = leaves Answer.View (withPointer (withView (x .line) v) (place 0)) (x .book)
 
--- ---- 0C seek: "Whence 0: the offset; 1: pointer + offset; 2: size / 8 rounded down, plus offset"
+-- ---- 0C seek: "Whence 0: the offset; 1: pointer + offset", 2: the end of the book in the view in force, plus offset (Wish 4)
 -- above 2 refusal 9 applies
 abbrev pub seekBase : Line → ℕ → ℕ
 seekBase l zero = 0

@@ -1,4 +1,6 @@
 -- `base` meets its contract: by the whence.
+use mathlib.Core.Path.{_∙_}
+use Rattle.view.specs.View.{endOfBook}
 use Rattle.setup_calls.proofs.Sums.{base-last}
 use borrow.Author.Needs.{needs}
 use Rattle.setup_calls.proofs.target.base.Statement.{statement}
@@ -9,8 +11,9 @@ returns c = rw (c .if1 .taken)
 
 returns-3 : tie.Need-returns-3
 returns-3 c =
-    let a = c .before .before .args in
-    base-last (a .whence) (a .pointer) (a .end) (c .before .if1 .left) (c .if2 .left)
+    let e2 = c .before in
+    let a = e2 .before .before .args in
+    c .end-of-book .ensures ∙ base-last (a .whence) (a .pointer) (endOfBook (a .view) (a .size)) (e2 .before .if1 .left) (e2 .if2 .left)
 
 pub base-spec : {M : Type 1} → statement M
-base-spec = tie.close (tie.spec returns (λ c. search needs) returns-3)
+base-spec = tie.close (tie.spec returns (λ c. search needs) (λ c κs. search needs) returns-3)
