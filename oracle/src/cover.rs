@@ -1,8 +1,10 @@
-//! What a set of sheets has hit: answer words, and refusals by kind of event.
+//! What a set of sheets has hit: answer words, refusals by kind of event, and sorts of seeks to
+//! the end.
 
 use crate::answer::{Answer, WORDS};
+use crate::ends::{end_seeks, EndSeek, END_SORTS};
 use crate::event::read_event;
-use crate::sheet::{MOST_SHEET, TOO_LONG};
+use crate::sheet::{list_of, MOST_SHEET, TOO_LONG};
 use std::collections::BTreeMap;
 
 /// Which kind can be refused with which number. Kind 00 stands for all unlisted.
@@ -97,6 +99,7 @@ pub struct Cover {
     pub too_long: u64,
     pub words: BTreeMap<&'static str, Hits>,
     pub refused: BTreeMap<(u8, u64), Hits>,
+    pub ends: BTreeMap<&'static str, Hits>,
 }
 
 /// How many events hit a thing, and in how many sheets.
@@ -134,13 +137,15 @@ impl Cover {
         if lines.len() != kinds.len() + 1 {
             return Err(format!("{} lines for {} events and an end", lines.len(), kinds.len()));
         }
+        let mut answers = Vec::new();
         for (number, (line, kind)) in lines.iter().zip(kinds).enumerate() {
-            self.count_line(number, line, kind)?;
+            answers.push(self.count_line(number, line, kind)?);
         }
+        end_seeks(&list_of(sheet, &answers)).iter().for_each(|seek| self.count_end(seek));
         Ok(())
     }
 
-    fn count_line(&mut self, number: usize, line: &str, kind: u8) -> Result<(), String> {
+    fn count_line(&mut self, number: usize, line: &str, kind: u8) -> Result<Answer, String> {
         let rest = line.strip_prefix(&format!("{number} "));
         let Some(answer) = rest.and_then(Answer::parse) else {
             return Err(format!("line that is no answer: {line}"));
@@ -153,7 +158,15 @@ impl Cover {
         if let Answer::Refused { number } = answer {
             self.refused.entry((kind, number)).or_default().hit(self.sheets);
         }
-        Ok(())
+        Ok(answer)
+    }
+
+    fn count_end(&mut self, seek: &EndSeek) {
+        for (name, is_of) in END_SORTS {
+            if is_of(seek) {
+                self.ends.entry(name).or_default().hit(self.sheets);
+            }
+        }
     }
 
     /// What was never hit, and what should never have been.
@@ -167,6 +180,11 @@ impl Cover {
         for &(kind, number) in CAN_REFUSE {
             if !self.refused.contains_key(&(kind, u64::from(number))) {
                 faults.push(format!("refusal {number} of kind {} was never hit", name(kind)));
+            }
+        }
+        for (name, _) in END_SORTS {
+            if !self.ends.contains_key(name) {
+                faults.push(format!("seek to the end `{name}` was never hit"));
             }
         }
         for &(kind, number) in self.refused.keys() {
@@ -183,13 +201,10 @@ impl Cover {
             "{} sheets, {} events, {} sheets too long\n",
             self.sheets, self.events, self.too_long
         );
-        out.push_str(&format!("{:>9} {:>9} {:>9}\n", "answer", "events", "sheets"));
-        for word in WORDS {
-            let hits = self.words.get(word).copied().unwrap_or_default();
-            out.push_str(&format!("{word:>9} {:>9} {:>9}\n", hits.events, hits.sheets));
-        }
+        out.push_str(&name_table("answer", &WORDS, &self.words));
         out.push_str(&self.refusal_table("events refused", |hits| hits.events));
         out.push_str(&self.refusal_table("sheets with it", |hits| hits.sheets));
+        out.push_str(&name_table("seek to the end", &END_SORTS.map(|sort| sort.0), &self.ends));
         out
     }
 
@@ -213,6 +228,17 @@ impl Cover {
         out.push('\n');
         out
     }
+}
+
+/// A line for each name, with its events and sheets.
+fn name_table(title: &str, names: &[&'static str], hit: &BTreeMap<&'static str, Hits>) -> String {
+    let width = names.iter().map(|name| name.len()).max().unwrap_or(0).max(title.len());
+    let mut out = format!("{title:>width$} {:>9} {:>9}\n", "events", "sheets");
+    for name in names {
+        let hits = hit.get(name).copied().unwrap_or_default();
+        out.push_str(&format!("{name:>width$} {:>9} {:>9}\n", hits.events, hits.sheets));
+    }
+    out
 }
 
 fn name(kind: u8) -> String {

@@ -74,13 +74,20 @@ impl View {
         end <= u32::from(self.extent) && unused.iter().all(|&block| block == (0, 0))
     }
 
+    fn used(&self) -> &[(u16, u16)] {
+        &self.list[..self.blocks as usize]
+    }
+
+    /// m of document 01: the records of a tile that the view shows.
+    pub fn shown(&self) -> u64 {
+        self.used().iter().map(|&(_, length)| u64::from(length)).sum()
+    }
+
     /// The byte position of a place: displacement + 8 x (tile x extent + record in tile).
     pub fn position(&self, place: u64) -> u64 {
-        let used = &self.list[..self.blocks as usize];
-        let m: u64 = used.iter().map(|&(_, length)| u64::from(length)).sum();
-        let tile = place / m;
-        let mut nth = place % m;
-        for &(start, length) in used {
+        let tile = place / self.shown();
+        let mut nth = place % self.shown();
+        for &(start, length) in self.used() {
             if nth < u64::from(length) {
                 let record = u64::from(start) + nth;
                 let records = tile * u64::from(self.extent) + record;
@@ -89,6 +96,16 @@ impl View {
             nth -= u64::from(length);
         }
         unreachable!("place mod m is below the sum of lengths")
+    }
+
+    /// Wish 4: how many places have a record that starts below the size, wherever it ends.
+    /// By the rules each place lies 8 bytes or more past the one before, so the walk ends.
+    pub fn places_below(&self, size: u32) -> u64 {
+        let mut place = 0;
+        while self.position(place) < u64::from(size) {
+            place += 1;
+        }
+        place
     }
 }
 

@@ -1,24 +1,23 @@
-//! The reasons for refusing, one function for each number of document 01, as Wish 2 leaves it,
-//! and of Wish 1.
-//! Every reason is looked at for every event, and the lowest is given; 17 alone is looked
-//! for once, after 1 and before the first event of a run with a report.
+//! The reasons for refusing, one function for each number of document 01, as Wishes 2 and 4
+//! leave it, and of Wish 1.
+//! On a sound line every reason is looked at for every event, and the lowest is given; 17 alone
+//! is looked for once, after 1 and before the first event of a run with a report.
 
 use crate::event::{body_length, Event};
 use crate::line::*;
 use crate::report::Report;
 use crate::sheet::MOST_SHEET;
 
-/// Every number from 1 and 4 to 16 that applies to this event in this state.
+/// Every number from 4 to 16 that applies to this event in this state, or 1 alone: the others
+/// go by a sound line, and the walk of whence 2 need not end on another.
 pub fn refusals(machine: &Machine, event: &Event) -> Vec<u8> {
-    let mut reasons = Vec::new();
     if refuse_1_line_not_sound(&machine.line, machine.book.len()) {
-        reasons.push(1);
+        return vec![1];
     }
-    reasons.extend(call_refusals(&machine.line, machine.book.len(), event));
-    reasons
+    call_refusals(&machine.line, machine.book.len(), event)
 }
 
-/// Every number from 4 to 16 that applies.
+/// Every number from 4 to 16 that applies, on a sound line.
 pub fn call_refusals(line: &Line, book_bytes: usize, event: &Event) -> Vec<u8> {
     let tests = [
         (4, refuse_4_other_than_01_before_open(line, event)),
@@ -186,14 +185,16 @@ pub fn refuse_15_pointer_below_0_or_above_65536(line: &Line, event: &Event) -> b
     }
 }
 
-/// Where a seek would put the pointer; nothing for a whence above 2.
+/// Where a seek would put the pointer; nothing for a whence above 2. Whence 2 counts the places
+/// whose record starts below the size in the view in force (Wish 4).
 pub fn seek_target(line: &Line, whence: u8, offset: i32) -> Option<i64> {
-    match whence {
-        0 => Some(i64::from(offset)),
-        1 => Some(i64::from(line.pointer) + i64::from(offset)),
-        2 => Some(i64::from(line.size / 8) + i64::from(offset)),
-        _ => None,
-    }
+    let from = match whence {
+        0 => 0,
+        1 => i64::from(line.pointer),
+        2 => line.view.places_below(line.size) as i64,
+        _ => return None,
+    };
+    Some(from + i64::from(offset))
 }
 
 /// 16. The records of 04 (purpose 0), of 07, or of 0A with all gathered so far, do not fit.

@@ -1,4 +1,4 @@
-//! Document 01's example sheet, its edges as Wish 2 leaves them, and the readings chosen.
+//! Document 01's example sheet, its edges as Wishes 2 and 4 leave them, and the readings chosen.
 
 use oracle_lib::event::Event;
 use oracle_lib::line::{Machine, Phase, Search, View};
@@ -108,11 +108,17 @@ fn seeks() {
     assert_eq!(answers(&format!("{at_3} 0C 00 00010001"))[2], "refused 15");
     assert_eq!(answers(&format!("{at_3} 0C 01 7FFFFFFF"))[2], "refused 15");
     assert_eq!(answers(&format!("{at_3} 0C 01 80000000"))[2], "refused 15");
+}
+
+/// The edge of size 24 is read in the plain view since Wish 4, and stays. Size 31 gave 3, as
+/// size / 8 rounded down; by Wish 4 the count rounds up (more in `wish4.rs`).
+#[test]
+fn seeks_to_the_end() {
     let mut machine = opened(1, 64);
-    machine.line.size = 24;
-    assert_eq!(say(&mut machine, Event::Seek { whence: 2, offset: 0 }), "seek 3");
-    machine.line.size = 31;
-    assert_eq!(say(&mut machine, Event::Seek { whence: 2, offset: 0 }), "seek 3");
+    for (size, said) in [(24, "seek 3"), (31, "seek 4")] {
+        machine.line.size = size;
+        assert_eq!(say(&mut machine, Event::Seek { whence: 2, offset: 0 }), said);
+    }
 }
 
 #[test]

@@ -2,6 +2,7 @@
 
 use oracle_lib::answer::Answer;
 use oracle_lib::cover::{kinds, Cover};
+use oracle_lib::ends::END_SORTS;
 use oracle_lib::event::{read_event, Event};
 use oracle_lib::line::{Machine, Search};
 use oracle_lib::make::{all_cuts, sheet, sort_of, Sort};
@@ -145,6 +146,7 @@ fn answers_read_back_the_same() {
     }
 }
 
+/// Nothing is left unhit, and each sort of seek to the end comes in 50 events and in 10 sheets, or more.
 #[test]
 fn a_whole_round_of_cuts_hits_everything() {
     let mut cover = Cover::default();
@@ -157,4 +159,8 @@ fn a_whole_round_of_cuts_hits_everything() {
         cover.count(&sheet, &printed).unwrap();
     }
     assert_eq!(cover.faults(), Vec::<String>::new());
+    for (name, _) in END_SORTS {
+        let hits = cover.ends[name];
+        assert!(hits.events >= 50 && hits.sheets >= 10, "{name}:\n{}", cover.table());
+    }
 }

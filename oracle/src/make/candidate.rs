@@ -5,7 +5,7 @@ use super::walk::*;
 use crate::cover::CAN_REFUSE;
 use crate::event::{Blocks, Event};
 use crate::line::*;
-use crate::refuse::call_refusals;
+use crate::refuse::{call_refusals, seek_target};
 
 const TRIES: usize = 24;
 
@@ -98,11 +98,7 @@ impl Walk<'_> {
 
     /// A seek to, or one past, an end of the pointer's range, or near by.
     pub fn edge_seek(&mut self, whence: u8) -> Event {
-        let base = match whence {
-            1 => self.line().pointer as i32,
-            2 => (self.line().size / 8) as i32,
-            _ => 0,
-        };
+        let base = seek_target(self.line(), whence, 0).unwrap_or(0) as i32;
         let offset = match self.random.below(8) {
             0 => -base,
             1 => -base - 1,
@@ -114,8 +110,12 @@ impl Walk<'_> {
         Event::Seek { whence, offset }
     }
 
-    /// A view that keeps the rules: gaps, touching blocks, odd displacements.
+    /// A view that keeps the rules: gaps, touching blocks, odd displacements, or the plain view.
     pub fn good_view(&mut self) -> Event {
+        if self.random.one_in(6) {
+            let View { displacement, extent, blocks, list } = View::plain();
+            return Event::View { displacement, extent, blocks, list };
+        }
         let wide = self.random.one_in(6);
         let blocks = if self.random.one_in(8) { 8 } else { self.random.between(1, 4) as u8 };
         let mut list: Blocks = [(0, 0); 8];
@@ -132,16 +132,23 @@ impl Walk<'_> {
             1..=5 => at,
             _ => (at + self.random.below(4) as u16).min(MOST_EXTENT),
         };
-        let capacity = self.line().capacity;
-        let displacement = match self.random.below(10) {
+        Event::View { displacement: self.good_displacement(), extent, blocks, list }
+    }
+
+    /// About 0, the size and the capacity, or anywhere.
+    fn good_displacement(&mut self) -> u32 {
+        let (capacity, size) = (self.line().capacity, self.line().size);
+        match self.random.below(12) {
             0 => capacity,
             1 => capacity - 8,
             2 => capacity - 7,
             3 => self.random.below(u64::from(capacity) + 1) as u32,
-            4..=6 => 0,
+            4 => size,
+            5 => (size + self.random.pick(&[1, 7, 8])).min(capacity),
+            6 => size.saturating_sub(self.random.pick(&[1, 7, 8, 9, 17])),
+            7..=9 => 0,
             _ => self.random.below(9) as u32,
-        };
-        Event::View { displacement, extent, blocks, list }
+        }
     }
 
     /// A view with one rule broken.

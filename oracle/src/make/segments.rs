@@ -10,13 +10,14 @@ impl Walk<'_> {
         let mut rounds = 0;
         while !self.over && self.line().is_open() && rounds < 20_000 {
             rounds += 1;
-            match self.random.below(8) {
+            match self.random.below(9) {
                 0 | 1 => self.any_order(),
                 2 => self.turns(),
                 3 => self.whole_book(),
                 4 => self.ordered(),
                 5 => self.new_view(),
                 6 => self.reading(),
+                7 => self.appending(),
                 _ => self.any_events(),
             }
         }
@@ -198,12 +199,38 @@ impl Walk<'_> {
     /// Back to a low place, then shared reads over the size and past it.
     fn reading(&mut self) {
         if self.drain() {
-            let size = self.line().size / 8;
-            let low = self.random.pick(&[0, 0, size.saturating_sub(2), 65_535]);
+            let end = self.line().view.places_below(self.line().size);
+            let low = self.random.pick(&[0, 0, end.saturating_sub(2), 65_535]);
             self.emit(Event::Seek { whence: 0, offset: low as i32 });
         }
         self.purposes = self.random.pick(&[&[1u8][..], &[1, 1, 0]]).to_vec();
-        for _ in 0..self.random.between(4, 30) {
+        let turns = self.random.between(4, 30);
+        self.shared_turns(turns);
+    }
+
+    /// Seeks to the end of the book, most of them by 0 and some through a new view, each with
+    /// shared writes from there.
+    fn appending(&mut self) {
+        self.purposes = self.random.pick(&[&[0u8][..], &[0, 0, 1]]).to_vec();
+        for _ in 0..self.random.between(1, 3) {
+            if !self.drain() {
+                return;
+            }
+            if self.random.one_in(3) {
+                let event = self.good_view();
+                self.emit(event);
+            }
+            let to_end = Event::Seek { whence: 2, offset: 0 };
+            let event = if self.random.one_in(3) { self.edge_seek(2) } else { to_end };
+            self.emit(event);
+            let turns = self.random.between(1, 6);
+            self.shared_turns(turns);
+        }
+    }
+
+    /// Wants, receives, releases and records, one of each where there is something to do.
+    fn shared_turns(&mut self, turns: u64) {
+        for _ in 0..turns {
             let _ = self.act_want();
             let _ = self.act_receive() || self.act_release();
             let _ = self.act_work();
