@@ -337,7 +337,7 @@ impl<const PLAIN: bool> Line<'_, PLAIN> {
         let from = match whence {
             0 => 0,
             1 => self.pointer,
-            2 => self.size / 8,
+            2 => self.tiling.end(self.size),
             _ => return Err(Refusal(9)),
         };
         if !self.all_idle() {

@@ -273,17 +273,33 @@ fn refused_line_calls(sheet: &mut Sheet) {
     sheet.view(1); // 11
 }
 
-/// Seeks that are accepted, to rising places.
-pub fn seeks(length: usize, lanes: u8) -> Vec<u8> {
-    let mut sheet = Sheet::new(length);
-    sheet.open(lanes, 65_536);
-    for place in 0.. {
-        sheet.seek(0, place % 65_537);
+/// Seeks with rising offsets, over and over, to the sheet's end.
+fn rising_seeks(mut sheet: Sheet, whence: u8, offsets: i32) -> Vec<u8> {
+    for number in 0.. {
+        sheet.seek(whence, number % offsets);
         if sheet.full {
             break;
         }
     }
     sheet.filled()
+}
+
+/// Seeks that are accepted, to rising places.
+pub fn seeks(length: usize, lanes: u8) -> Vec<u8> {
+    let mut sheet = Sheet::new(length);
+    sheet.open(lanes, 65_536);
+    rising_seeks(sheet, 0, 65_537)
+}
+
+/// Seeks that are accepted, from the end of a full book through eight blocks.
+pub fn seeks_to_the_end(length: usize, lanes: u8) -> Vec<u8> {
+    let mut sheet = Sheet::new(length);
+    sheet.open(lanes, 65_536);
+    sheet.want(0, 2);
+    sheet.put(0, 8_191, record(0));
+    sheet.free(0);
+    sheet.view(8);
+    rising_seeks(sheet, 2, 1_024)
 }
 
 /// Changes of view that are accepted, with one block and with eight by turns.
@@ -306,6 +322,7 @@ pub fn workloads(length: usize, lanes: u8) -> Vec<(&'static str, Vec<u8>)> {
         ("ordered calls", ordered_calls(length, lanes)),
         ("refusals", refusals(length)),
         ("seeks", seeks(length, lanes)),
+        ("seeks to the end", seeks_to_the_end(length, lanes)),
         ("views", views(length, lanes)),
     ]
 }

@@ -70,6 +70,15 @@ impl Tiling {
         let record = self.record[within as usize & 1023] as u64;
         self.displacement + 8 * (tile * self.extent + record)
     }
+
+    /// The places whose record starts below the size: those of the whole tiles below it, and those
+    /// before it in the tile that it cuts.
+    pub fn end(&self, size: u32) -> u32 {
+        let records = (size as u64).saturating_sub(self.displacement).div_ceil(8);
+        let cut = (records % self.extent) as u16;
+        let whole = (records / self.extent) as u32 * self.shown;
+        whole + self.record[..self.shown as usize].partition_point(|&record| record < cut) as u32
+    }
 }
 
 impl View {
