@@ -228,64 +228,28 @@ fn runs() {
     print_example_fits(b"fits_4_in_59_of_example", 59, 4);
 }
 
-// The end of a book in the plain view: rounded up.
-fn ends_of_plain() {
+// The end of a book: rounded up in the plain view, and in the example's; view/Edges has the sizes about each position.
+fn ends() {
     print_end(b"end_of_24", View::PLAIN, 24);
     print_end(b"end_of_31", View::PLAIN, 31);
-    print_end(b"end_of_25", View::PLAIN, 25);
     print_end(b"end_of_7", View::PLAIN, 7);
     print_end(b"end_of_8", View::PLAIN, 8);
-    print_end(b"end_of_1", View::PLAIN, 1);
     print_end(b"end_of_0", View::PLAIN, 0);
     print_end(b"end_of_65536", View::PLAIN, 65536);
     print_end(b"end_of_4294967295", View::PLAIN, 4294967295);
+    print_end(b"end_of_24_in_example", example(), 24);
+    print_end(b"end_of_65536_in_example", example(), 65536);
 }
 
-// In the example's view, about each position.
-fn ends_of_example() {
-    let view = example();
-    print_end(b"end_of_24_in_example", view, 24);
-    print_end(b"end_of_3_in_example", view, 3);
-    print_end(b"end_of_4_in_example", view, 4);
-    print_end(b"end_of_12_in_example", view, 12);
-    print_end(b"end_of_13_in_example", view, 13);
-    print_end(b"end_of_20_in_example", view, 20);
-    print_end(b"end_of_21_in_example", view, 21);
-    print_end(b"end_of_36_in_example", view, 36);
-    print_end(b"end_of_37_in_example", view, 37);
-    print_end(b"end_of_52_in_example", view, 52);
-    print_end(b"end_of_53_in_example", view, 53);
-    print_end(b"end_of_65536_in_example", view, 65536);
-}
-
-// In views that show all of a tile, or its last record alone; and where the displacement is at the end of its range.
-fn ends_of_wide() {
-    let last = one(1024, 1023, 1);
-    print_end(b"end_of_65536_in_whole_tiles", one(1024, 0, 1024), 65536);
-    print_end(b"end_of_65536_in_last_of_tile", last, 65536);
-    print_end(b"end_of_65529_in_last_of_tile", last, 65529);
-    print_end(b"end_of_65528_in_last_of_tile", last, 65528);
+// In a view that shows the last record of a tile, at the end of the displacement's range, and in views that break a rule.
+fn ends_of_extremes() {
+    print_end(b"end_of_65529_in_last_of_tile", one(1024, 1023, 1), 65529);
+    print_end(b"end_of_65528_in_last_of_tile", one(1024, 1023, 1), 65528);
     let far = two(4294967294, 1, 1, block(0, 1), Block::UNUSED);
     print_end(b"end_of_4294967295_from_4294967294", far, 4294967295);
-    print_end(b"end_of_4294967294_from_4294967294", far, 4294967294);
-}
-
-// A view that breaks a rule has no place below its end.
-fn ends_of_broken() {
-    print_end(
-        b"end_in_no_blocks",
-        two(0, 1, 0, Block::UNUSED, Block::UNUSED),
-        24,
-    );
     print_end(b"end_in_nine_blocks", eight(9), 24);
     print_end(b"end_in_extent_0", one(0, 0, 1), 24);
-    print_end(b"end_in_extent_1025", one(1025, 0, 1), 24);
-    print_end(
-        b"end_in_overlapping",
-        two(0, 3, 2, block(0, 2), block(1, 1)),
-        24,
-    );
-    print_end(b"end_in_length_0", one(3, 0, 0), 24);
+    print_end(b"end_in_end_past_extent", one(3, 1, 3), 24);
 }
 
 fn main() {
@@ -296,8 +260,6 @@ fn main() {
     rules_of_use();
     rules_of_blocks();
     runs();
-    ends_of_plain();
-    ends_of_example();
-    ends_of_wide();
-    ends_of_broken();
+    ends();
+    ends_of_extremes();
 }
