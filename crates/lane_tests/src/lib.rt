@@ -1,3 +1,4 @@
 // Tests and numbers of all lanes together.
+pub mod regions;
 pub mod rules;
 pub mod tallies;

@@ -3,7 +3,7 @@ ghost use Prim.Native.Nat.{_+_};
 ghost use mathlib.Core.Path.{_≡_};
 ghost use lib.ListN.{drop};
 ghost use Rattle.lists.specs.Lists.{allPass};
-ghost use Rattle.line.specs.Line.{on, placeIn};
+ghost use Rattle.line.specs.Line.{on};
 ghost use Rattle.line.specs.Sound.{regionEnd, regionOk, valueOk};
 ghost use Rattle.lane_tests.specs.Rules.{ruleOf};
 use limits::MOST_LANES;
@@ -19,15 +19,7 @@ pub enum Rule {
     Region,
 }
 
-// The first place of a region. The numbers are wide enough for an end past any place.
-pub fn region_start(x: Phase) -> u64
-    ensures { λ r. ⌜ r ≡ placeIn x .0 ⌝ }
-{
-    let place = phase_tests::place_in(x);
-    place.0 as u64
-}
-
-// The place that follows the last one of a region.
+// The place that follows the last one of a region. The number is wide enough for an end past any place.
 pub fn region_end(x: Phase) -> u64
     ensures { λ r. ⌜ r ≡ regionEnd x ⌝ }
 {

@@ -1,16 +1,12 @@
-// Tests and counts over all lanes: the flags, the regions, and how many lanes are in which phase.
+// Tests and counts over all lanes: the flags, and how many lanes are in which phase.
 ghost use Prim.Native.Nat.{_≤_};
 ghost use mathlib.Core.Path.{_≡_};
 ghost use mathlib.Core.List.{map};
-ghost use lib.ListN.{drop};
-ghost use Rattle.lists.specs.Lists.{allPass, somePass, bit, pairwise, sameNumbers};
+ghost use Rattle.lists.specs.Lists.{somePass, bit, sameNumbers};
 ghost use Rattle.line.specs.Line.{flagFor, isGathered, on};
-ghost use Rattle.line.specs.Sound.{apart, apartLanes};
 ghost use Rattle.lane_tests.specs.Rules.{countsOf, tallyOf};
-use crate::rules;
 use limits::MOST_LANES;
 use line::Lane;
-use line::Phase;
 
 // How many lanes are flagged, how many have the turn, how many are gathered, and the gathered total.
 pub struct Tally {
@@ -111,57 +107,6 @@ pub fn flags_ok(flag: [u8; MOST_LANES], lane: [Lane; MOST_LANES]) -> bool
         let l = lane[i];
         let x = l.phase;
         if flag[i] != phase_tests::flag_for(x) {
-            return false;
-        }
-        i += 1;
-    }
-    true
-}
-
-// Whether two lanes have no place in common.
-fn are_apart(x: Phase, y: Phase) -> bool
-    ensures { λ r. ⌜ r ≡ apart x y ⌝ }
-{
-    if !phase_tests::is_busy(x) {
-        return true;
-    }
-    if !phase_tests::is_busy(y) {
-        return true;
-    }
-    if rules::region_end(x) <= rules::region_start(y) {
-        return true;
-    }
-    rules::region_end(y) <= rules::region_start(x)
-}
-
-// Whether a lane has no place in common with those from an index on.
-fn apart_from(x: Phase, lane: [Lane; MOST_LANES], start: usize) -> bool
-    ensures { λ r. ⌜ r ≡ allPass (on (apart x)) (drop start lane) ⌝ }
-{
-    if !phase_tests::is_busy(x) {
-        return true;
-    }
-    let mut i = start;
-    while i < MOST_LANES {
-        let l = lane[i];
-        let y = l.phase;
-        if !are_apart(x, y) {
-            return false;
-        }
-        i += 1;
-    }
-    true
-}
-
-// ".. and share no place".
-pub fn regions_apart(lane: [Lane; MOST_LANES]) -> bool
-    ensures { λ r. ⌜ r ≡ pairwise apartLanes lane ⌝ }
-{
-    let mut i: usize = 0;
-    while i < MOST_LANES {
-        let l = lane[i];
-        let x = l.phase;
-        if !apart_from(x, lane, i + 1) {
             return false;
         }
         i += 1;

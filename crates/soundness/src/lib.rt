@@ -1,7 +1,10 @@
 // Whether a line is sound: the test that comes before every call.
+ghost use Prim.Native.Nat.{_≤_};
 ghost use mathlib.Core.Path.{_≡_};
 ghost use mathlib.Core.Bool.{true};
+ghost use Rattle.limits.specs.Limits.{mostPointer};
 ghost use Rattle.line.specs.Sound.{busyOk, flagsOk, gatheredOk, pastOk, sound, turnOk};
+use lane_tests::regions;
 use lane_tests::rules;
 use lane_tests::rules::Rule;
 use lane_tests::tallies;
@@ -47,13 +50,14 @@ fn gathered_ok(line: Line) -> bool
 
 // "Busy lanes have a record left and regions that end at or below the pointer and share no place; a writer's records fit".
 fn busy_ok(line: Line) -> bool
+    requires { ⌜ line .pointer .0 ≤ mostPointer ⌝ }
     ensures { λ r. ⌜ r ≡ busyOk line ⌝ }
 {
     if !rules::all_meet(Rule::Region, line, 0) {
         return false;
     }
     let lane = line.lane;
-    tallies::regions_apart(lane)
+    regions::regions_apart(lane)
 }
 
 // "Entries past N are idle with flag 0"; the flags are those of the phases.

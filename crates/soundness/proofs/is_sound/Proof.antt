@@ -4,6 +4,7 @@ use mathlib.Core.Bool.{and-true, true}
 use borrow.Author.Tests.{not-false, not-true}
 use Rattle.line.specs.Sound.{busyOk, flagsOk, gatheredOk, numbersOk, sound, turnOk}
 use Rattle.line.specs.declared.Line.{Line}
+use Rattle.soundness.proofs.Laws.{pointer-low}
 use borrow.Author.Needs.{needs}
 use Rattle.soundness.proofs.is_sound.Statement.{statement}
 use Rattle.soundness.proofs.is_sound.Tie as tie
@@ -56,6 +57,11 @@ returns-4 c =
     let e2 = e3 .before .before in
     rw (numbers (at-numbers e2), flags e2, turn e3, sym (c .before .gathered-ok .ensures) ∙ not-true _ (c .if4 .taken))
 
+busy-ok-requires : tie.Need-busy-ok-requires
+busy-ok-requires c κs =
+    let e1 = at-numbers (c .before .before .before .before) in
+    pointer-low (line-at e1) (e1 .before .before .args .buffer) (numbers e1)
+
 returns-5 : tie.Need-returns-5
 unfolding sound
 returns-5 c =
@@ -88,7 +94,7 @@ is-sound-spec =
     returns-3
     (λ c κs. search needs)
     returns-4
-    (λ c κs. search needs)
+    busy-ok-requires
     returns-5
     past-ok-requires
     returns-6)
