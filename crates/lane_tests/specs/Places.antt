@@ -1,4 +1,4 @@
--- Places as bits of words, 64 to a word: which places are marked, and the regions whose places are not. Tied to `line/Sound: pairwise apartLanes` by the contract of regions::regions_apart.
+-- Places as bits of words, 64 to a word: which places are marked, and the regions whose places are not. Tied to `sound` by the contract of soundness::is_sound.
 use Prim.Native.Nat.{ℕ, zero, suc, _+_, _-_, _/_, _%_, _^_}
 use mathlib.Core.Path.{_≡_}
 use mathlib.Core.Bool.{Bool, true, _&&_, _||_}

@@ -20,7 +20,7 @@ pub enum Rule {
 }
 
 // The place that follows the last one of a region. The number is wide enough for an end past any place.
-pub fn region_end(x: Phase) -> u64
+fn region_end(x: Phase) -> u64
     ensures { λ r. ⌜ r ≡ regionEnd x ⌝ }
 {
     let place = phase_tests::place_in(x);
