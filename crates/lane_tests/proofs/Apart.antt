@@ -1,5 +1,5 @@
 -- The regions of lanes whose places are marked one after the other: none is marked twice where they are apart.
-use Prim.Native.Nat.{ℕ, zero, suc, _+_, _/_, _%_, _^_, _≤_, _<_, max}
+use Prim.Native.Nat.{ℕ, _+_, _/_, _%_, _^_, _≤_, _<_, max}
 use mathlib.Core.Path.{_≡_, refl, sym, _∙_}
 use mathlib.Core.Logic.{_⊎_, inl, inr, ⊎-elim}
 use mathlib.Core.Bool.{Bool, true, false, and-assoc, _&&_, _||_}
@@ -10,11 +10,11 @@ use lib.ListN.{drop, getD, length, replicate}
 use lib.Dec.{leb}
 use borrow.Author.Tests.{leb-true}
 use Rattle.lists.specs.Lists.{allPass, pairwise, somePass}
-use Rattle.lists.proofs.Loops.{drop-end}
+use Rattle.lists.proofs.Loops.{all-drop, drop-end}
 use Rattle.lists.proofs.Maps.{all-true}
 use Rattle.lists.proofs.Parts.{below-or-not, drop-more}
 use Rattle.lists.proofs.Tails.{getD-tail}
-use Rattle.lists.proofs.Tests.{and-both, and-left, and-right, both, by-test, implies-from, implies-use, neither-left, neither-right}
+use Rattle.lists.proofs.Tests.{and-both, and-left, and-right, both, by-test, implies-from, implies-use, neither-left, neither-right, same-test}
 use Rattle.limits.specs.Limits.{mostPointer}
 use Rattle.line.specs.Line.{idleLane, isBusy, leftIn, on, placeIn}
 use Rattle.line.specs.Sound.{apart, apartLanes, regionEnd}
@@ -22,7 +22,6 @@ use Rattle.line.specs.declared.Lane.{Lane}
 use Rattle.line.specs.declared.Phase.{Phase}
 use Rattle.line.proofs.Phases.{no-overlap}
 use Rattle.lane_tests.specs.Places.{Marks, isFree, isOutside, regionFree, regionWithin, regionsFree}
-use Rattle.lane_tests.proofs.Bits.{same-test}
 use Rattle.lane_tests.proofs.Places.{all-at, all-for, either-true, true-either}
 
 -- ---- one region
@@ -126,11 +125,6 @@ none-busy (l ∷ ls) e =
     (none-busy ls (neither-right (isBusy (l .phase)) (somePass (on isBusy) ls) e))
 
 -- ---- the loop over the lanes
-all-drop : {A : Type 0} (p : A → Bool) (i : ℕ) (l : List A) → allPass p l ≡ true → allPass p (drop i l) ≡ true
-all-drop p zero l e = e
-all-drop p (suc i) [] e = refl
-all-drop p (suc i) (x ∷ xs) e = all-drop p i xs (and-right (p x) (allPass p xs) e)
-
 module _ (words : List ℕ) (ls : List Lane) (i : ℕ) where
   abbrev phase : Phase
   phase = getD ls i idleLane .phase

@@ -1,8 +1,8 @@
 -- The bits of a word: those of a mask, `count` bits from bit `low` upwards, and of a word joined with it; the test of a word by a mask.
 use Prim.Native.Nat.{ℕ, zero, suc, _+_, _-_, _*_, _/_, _%_, _^_, _≤_, _<_, max}
-use mathlib.Core.Path.{_≡_, refl, sym, _∙_}
+use mathlib.Core.Path.{_≡_, sym, _∙_}
 use mathlib.Core.Logic.{⊎-elim}
-use mathlib.Core.Bool.{Bool, true, false, _&&_}
+use mathlib.Core.Bool.{_&&_}
 use native.Mathlib.Nat.{div-eq-of-lt, mod-one, mul-assoc, mul-mod-left, pow-suc}
 use native.Mathlib.Omega.{arith}
 use lib.Arith.{digits-mod}
@@ -11,14 +11,8 @@ use lib.Dec.{eqb}
 use lib.Pow.{high, high-ones, mod-pow-add, ones-lt, ones-split, pow-add, pow-mono, pow-pos, shl-exact, shl-shr, shr-shr}
 use borrow.Author.Tests.{eq-eqb, eqb-true, le-leb, lt-leb, ne-eqb}
 use Rattle.lists.proofs.Parts.{below-or-not}
-use Rattle.lists.proofs.Tests.{and-both, and-left, and-right}
+use Rattle.lists.proofs.Tests.{and-both, and-left, and-right, same-test}
 use Rattle.lane_tests.specs.Places.{allFrom, isClear, isOutside, maskOf}
-
--- two tests that pass together are one
-pub same-test : (a b : Bool) → (a ≡ true → b ≡ true) → (b ≡ true → a ≡ true) → a ≡ b
-same-test true b f g = sym (f refl)
-same-test false true f g = g refl
-same-test false false f g = refl
 
 -- a number that is 0 where two others are
 zero-both : (n x y : ℕ) → (n ≡ 0 → x ≡ 0) → (n ≡ 0 → y ≡ 0) → (x ≡ 0 → y ≡ 0 → n ≡ 0) → eqb n 0 ≡ (eqb x 0 && eqb y 0)

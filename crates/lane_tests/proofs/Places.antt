@@ -12,9 +12,9 @@ use lib.Bits.{bitAnd, bitOr}
 use lib.Dec.{eqb, leb}
 use borrow.Author.Tests.{eq-eqb, le-leb, leb-true, ne-eqb}
 use Rattle.lists.proofs.Parts.{below-or-not}
-use Rattle.lists.proofs.Tests.{and-both, and-left, and-right, clash}
+use Rattle.lists.proofs.Tests.{and-both, and-left, and-right, clash, same-test}
 use Rattle.lane_tests.specs.Places.{Marks, allFrom, isClear, isFree, isOutside, maskOf}
-use Rattle.lane_tests.proofs.Bits.{and-mask, mask-bit, or-bit, same-test}
+use Rattle.lane_tests.proofs.Bits.{and-mask, mask-bit, or-bit}
 
 -- ---- a test of each of several numbers
 module _ (p : ℕ → Bool) where
