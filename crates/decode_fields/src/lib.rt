@@ -65,8 +65,8 @@ fn wide(x: u8) -> u16
     x as u16
 }
 
-// The number in the two, four or eight bytes at an index.
-fn number16(sheet: &[u8], at: usize) -> u16
+// The number in the two, four or eight bytes at an index; for readers of fields that have looked at the length.
+pub fn number16(sheet: &[u8], at: usize) -> u16
     requires { ⌜ at + 2 ≤ length (now sheet) ⌝ }
     ensures { λ r. ⌜ (r ≡ numberOf (take 2 (drop at (now (sheet .entry))))) × (r < 65536) ⌝ }
 {
@@ -75,7 +75,7 @@ fn number16(sheet: &[u8], at: usize) -> u16
     high * 256 + low
 }
 
-fn number32(sheet: &[u8], at: usize) -> u32
+pub fn number32(sheet: &[u8], at: usize) -> u32
     requires { ⌜ at + 4 ≤ length (now sheet) ⌝ }
     ensures { λ r. ⌜ (r ≡ numberOf (take 4 (drop at (now (sheet .entry))))) × (r < 4294967296) ⌝ }
 {
@@ -84,7 +84,7 @@ fn number32(sheet: &[u8], at: usize) -> u32
     (high as u32) * 65536 + (low as u32)
 }
 
-fn number64(sheet: &[u8], at: usize) -> u64
+pub fn number64(sheet: &[u8], at: usize) -> u64
     requires { ⌜ at + 8 ≤ length (now sheet) ⌝ }
     ensures { λ r. ⌜ r ≡ numberOf (take 8 (drop at (now (sheet .entry)))) ⌝ }
 {
