@@ -112,7 +112,7 @@ pub struct Hits {
 
 impl Hits {
     /// One more event; sheets are numbered from 1 here.
-    fn hit(&mut self, sheet: u64) {
+    pub(crate) fn hit(&mut self, sheet: u64) {
         self.events += 1;
         if self.last_sheet != sheet {
             self.last_sheet = sheet;
@@ -201,39 +201,51 @@ impl Cover {
             "{} sheets, {} events, {} sheets too long\n",
             self.sheets, self.events, self.too_long
         );
-        out.push_str(&name_table("answer", &WORDS, &self.words));
-        out.push_str(&self.refusal_table("events refused", |hits| hits.events));
-        out.push_str(&self.refusal_table("sheets with it", |hits| hits.sheets));
-        out.push_str(&name_table("seek to the end", &END_SORTS.map(|sort| sort.0), &self.ends));
-        out
-    }
-
-    /// Kinds by numbers; a dot where the kind cannot give the number.
-    fn refusal_table(&self, title: &str, value: fn(&Hits) -> u64) -> String {
-        let mut out = format!("{title:<14}");
-        for number in 2..=16 {
-            out.push_str(&format!("{number:>7}"));
-        }
-        for kind in 0x00..=0x0C {
-            out.push_str(&format!("\n{:>14}", name(kind)));
-            for number in 2..=16u8 {
-                let cell = match self.refused.get(&(kind, u64::from(number))) {
-                    Some(hits) => value(hits).to_string(),
-                    None if CAN_REFUSE.contains(&(kind, number)) => "0".to_string(),
-                    None => ".".to_string(),
-                };
-                out.push_str(&format!("{cell:>7}"));
-            }
-        }
-        out.push('\n');
+        let units = ["events", "sheets"];
+        out.push_str(&name_table("answer", units, &WORDS, &self.words));
+        out.push_str(&refusal_table("events refused", 2, &self.refused, |hits| hits.events));
+        out.push_str(&refusal_table("sheets with it", 2, &self.refused, |hits| hits.sheets));
+        let sorts = END_SORTS.map(|sort| sort.0);
+        out.push_str(&name_table("seek to the end", units, &sorts, &self.ends));
         out
     }
 }
 
-/// A line for each name, with its events and sheets.
-fn name_table(title: &str, names: &[&'static str], hit: &BTreeMap<&'static str, Hits>) -> String {
+/// Kinds by numbers from the first one on; a dot where the kind cannot give the number.
+pub(crate) fn refusal_table(
+    title: &str,
+    first: u8,
+    refused: &BTreeMap<(u8, u64), Hits>,
+    value: fn(&Hits) -> u64,
+) -> String {
+    let mut out = format!("{title:<14}");
+    for number in first..=16 {
+        out.push_str(&format!("{number:>7}"));
+    }
+    for kind in 0x00..=0x0C {
+        out.push_str(&format!("\n{:>14}", name(kind)));
+        for number in first..=16 {
+            let cell = match refused.get(&(kind, u64::from(number))) {
+                Some(hits) => value(hits).to_string(),
+                None if number == 1 || CAN_REFUSE.contains(&(kind, number)) => "0".to_string(),
+                None => ".".to_string(),
+            };
+            out.push_str(&format!("{cell:>7}"));
+        }
+    }
+    out.push('\n');
+    out
+}
+
+/// A line for each name, with its two counts: events and sheets, or calls and cases.
+pub(crate) fn name_table(
+    title: &str,
+    units: [&str; 2],
+    names: &[&'static str],
+    hit: &BTreeMap<&'static str, Hits>,
+) -> String {
     let width = names.iter().map(|name| name.len()).max().unwrap_or(0).max(title.len());
-    let mut out = format!("{title:>width$} {:>9} {:>9}\n", "events", "sheets");
+    let mut out = format!("{title:>width$} {:>9} {:>9}\n", units[0], units[1]);
     for name in names {
         let hits = hit.get(name).copied().unwrap_or_default();
         out.push_str(&format!("{name:>width$} {:>9} {:>9}\n", hits.events, hits.sheets));
@@ -241,7 +253,7 @@ fn name_table(title: &str, names: &[&'static str], hit: &BTreeMap<&'static str, 
     out
 }
 
-fn name(kind: u8) -> String {
+pub(crate) fn name(kind: u8) -> String {
     if kind == 0 {
         "??".to_string()
     } else {

@@ -45,7 +45,15 @@ pub fn body_length(kind: u8) -> Option<usize> {
 /// cursor stands behind it; after refusal 2 or 3 it has not moved.
 pub fn read_event(sheet: &[u8], at: &mut usize) -> Option<Result<Event, u8>> {
     let kind = *sheet.get(*at)?;
-    let rest = &sheet[*at + 1..];
+    let read = read_call(kind, &sheet[*at + 1..]);
+    if read.is_ok() {
+        *at += 1 + body_length(kind).expect("a listed kind");
+    }
+    Some(read)
+}
+
+/// The event of a kind and the bytes behind it, those past its body not looked at; else 2 or 3.
+pub fn read_call(kind: u8, rest: &[u8]) -> Result<Event, u8> {
     let mut reasons = Vec::new();
     if refuse_2_kind_not_listed(kind) {
         reasons.push(2);
@@ -54,18 +62,17 @@ pub fn read_event(sheet: &[u8], at: &mut usize) -> Option<Result<Event, u8>> {
         reasons.push(3);
     }
     if let Some(&lowest) = reasons.iter().min() {
-        return Some(Err(lowest));
+        return Err(lowest);
     }
     let length = body_length(kind).expect("a listed kind");
-    *at += 1 + length;
-    Some(Ok(event_of(kind, &rest[..length])))
+    Ok(event_of(kind, &rest[..length]))
 }
 
-fn u16_at(body: &[u8], at: usize) -> u16 {
+pub(crate) fn u16_at(body: &[u8], at: usize) -> u16 {
     u16::from_be_bytes([body[at], body[at + 1]])
 }
 
-fn u32_at(body: &[u8], at: usize) -> u32 {
+pub(crate) fn u32_at(body: &[u8], at: usize) -> u32 {
     u32::from_be_bytes([body[at], body[at + 1], body[at + 2], body[at + 3]])
 }
 

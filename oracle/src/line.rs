@@ -28,6 +28,14 @@ impl Purpose {
             _ => None,
         }
     }
+
+    pub fn number(self) -> u8 {
+        match self {
+            Purpose::SharedWrite => 0,
+            Purpose::SharedRead => 1,
+            Purpose::WholeBook => 2,
+        }
+    }
 }
 
 #[derive(Clone, Copy, PartialEq, Eq, Debug)]
@@ -161,6 +169,20 @@ impl Line {
         self.view.position(place + records - 1) + RECORD_BYTES <= u64::from(self.capacity)
     }
 
+    /// How many records fit from a place, at most 65,535.
+    pub fn room(&self, place: u32) -> u32 {
+        let (mut fit, mut not) = (0u32, 65_536u32);
+        while fit + 1 < not {
+            let middle = (fit + not) / 2;
+            if self.fits(u64::from(place), u64::from(middle)) {
+                fit = middle;
+            } else {
+                not = middle;
+            }
+        }
+        fit
+    }
+
     /// The sum of the counts of the gathered lanes.
     pub fn gathered_total(&self) -> u64 {
         let counts = self.live().iter().map(|phase| match *phase {
@@ -180,11 +202,12 @@ pub enum Search {
     FromLaneZero,
 }
 
-/// The line, the lent book and the search: all that a call is handed.
+/// The line, the lent book and the search: all that a call is handed. The book is the machine's
+/// own, or the bytes of a caller.
 #[derive(Clone, Debug)]
-pub struct Machine {
+pub struct Machine<B = Vec<u8>> {
     pub line: Line,
-    pub book: Vec<u8>,
+    pub book: B,
     pub search: Search,
 }
 

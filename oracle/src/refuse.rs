@@ -7,10 +7,11 @@ use crate::event::{body_length, Event};
 use crate::line::*;
 use crate::report::Report;
 use crate::sheet::MOST_SHEET;
+use std::ops::Deref;
 
 /// Every number from 4 to 16 that applies to this event in this state, or 1 alone: the others
 /// go by a sound line, and the walk of whence 2 need not end on another.
-pub fn refusals(machine: &Machine, event: &Event) -> Vec<u8> {
+pub fn refusals<B: Deref<Target = [u8]>>(machine: &Machine<B>, event: &Event) -> Vec<u8> {
     if refuse_1_line_not_sound(&machine.line, machine.book.len()) {
         return vec![1];
     }

@@ -4,8 +4,9 @@ use crate::answer::Answer;
 use crate::event::{Event, Record};
 use crate::line::*;
 use crate::refuse::{refusals, seek_target};
+use std::ops::DerefMut;
 
-impl Machine {
+impl<B: DerefMut<Target = [u8]>> Machine<B> {
     /// One call: the lowest refusal that applies, or the event's steps.
     pub fn call(&mut self, event: &Event) -> Answer {
         let reasons = refusals(self, event);
@@ -15,7 +16,8 @@ impl Machine {
         self.accept(event)
     }
 
-    fn accept(&mut self, event: &Event) -> Answer {
+    /// The steps of an event that no reason refuses.
+    pub fn accept(&mut self, event: &Event) -> Answer {
         match *event {
             Event::Open { lanes, capacity } => self.open(lanes as usize, capacity),
             Event::Want { lane, purpose } => self.want(lane as usize, purpose),

@@ -2,17 +2,24 @@
 //! `oracle many`: a stream of sheets in, a stream of printed bytes out.
 //! `oracle report FILE...`: the sheets in the files run over one report, as a table.
 //! `oracle lent`: a stream of groups in, a stream of printed texts and reports left out.
+//! `oracle calls`: cases of single calls in, their answers, states and books as text out.
+//! `oracle singly`: as `oracle many`, each event made as a single call over state bytes.
 
+use oracle_lib::cases::Case;
 use oracle_lib::group::{left_bytes, Group};
 use oracle_lib::line::Search;
 use oracle_lib::report::Report;
 use oracle_lib::sheet::{print_sheet, print_sheet_with_report, MOST_SHEET};
+use oracle_lib::single::{call, print_singly};
 use oracle_lib::stream::{open_source, read_item, write_item};
 use std::io::{self, BufWriter, Read, Write};
 use std::process::ExitCode;
 
 /// Something was left out of the table; it was named on standard error.
 const LEFT_OUT: u8 = 1;
+
+const USE: &str =
+    "use: oracle | oracle many|singly|lent|calls (standard input) | oracle report FILE...";
 
 fn one() -> io::Result<ExitCode> {
     let mut sheet = Vec::new();
@@ -21,11 +28,24 @@ fn one() -> io::Result<ExitCode> {
     Ok(ExitCode::SUCCESS)
 }
 
-fn many() -> io::Result<ExitCode> {
+/// A stream of sheets in, a stream of what is printed of each out.
+fn many(print: fn(&[u8]) -> Vec<u8>) -> io::Result<ExitCode> {
     let mut source = open_source("-")?;
     let mut out = BufWriter::new(io::stdout().lock());
     while let Some(sheet) = read_item(&mut source)? {
-        write_item(&mut out, &print_sheet(&sheet, Search::AfterReleaser))?;
+        write_item(&mut out, &print(&sheet))?;
+    }
+    out.flush()?;
+    Ok(ExitCode::SUCCESS)
+}
+
+fn calls() -> io::Result<ExitCode> {
+    let mut source = open_source("-")?;
+    let mut out = BufWriter::new(io::stdout().lock());
+    let mut k = 0;
+    while let Some(case) = Case::read(&mut source)? {
+        out.write_all(case.printed(k, call).as_bytes())?;
+        k += 1;
     }
     out.flush()?;
     Ok(ExitCode::SUCCESS)
@@ -83,12 +103,12 @@ fn main() -> ExitCode {
     let words: Vec<&str> = words.iter().map(String::as_str).collect();
     let done = match words.as_slice() {
         [] => one(),
-        ["many"] => many(),
+        ["many"] => many(|sheet| print_sheet(sheet, Search::AfterReleaser)),
+        ["singly"] => many(print_singly),
         ["lent"] => lent(),
+        ["calls"] => calls(),
         ["report", names @ ..] => report(names),
-        _ => {
-            Err(io::Error::other("use: oracle | oracle many | oracle report FILE... | oracle lent"))
-        }
+        _ => Err(io::Error::other(USE)),
     };
     match done {
         Ok(code) => code,

@@ -198,7 +198,7 @@ fn wait_sheet(random: &mut Random, sort: WaitSort, lanes: u8) -> Vec<u8> {
 }
 
 /// A sheet of the other generator; its long sorts are left to the long groups.
-fn short_sheet(random: &mut Random) -> Vec<u8> {
+pub fn short_sheet(random: &mut Random) -> Vec<u8> {
     loop {
         let k = random.below(1 << 20);
         if !matches!(sort_of(k), Sort::Full | Sort::TooLong | Sort::LongWalk) {

@@ -1,6 +1,12 @@
-//! Made-up sheets and groups. Sheet or group k of a seed depends on the seed and k alone.
+//! Made-up sheets, groups and cases of single calls. Sheet, group or case k of a seed depends on
+//! the seed and k alone.
 
+mod built;
+mod calls;
 mod candidate;
+mod damage;
+mod damage_bytes;
+mod damage_line;
 mod groups;
 mod plain;
 mod segments;
@@ -10,6 +16,8 @@ use crate::event::body_length;
 use crate::line::MOST_LANES;
 use crate::random::Random;
 use crate::sheet::MOST_SHEET;
+pub use built::{any_built, built, Shape};
+pub use calls::{case, case_name, case_names};
 pub use groups::{first_sheet_sort_of, group, group_sort_of, GroupSort, WaitSort};
 pub use walk::Walk;
 

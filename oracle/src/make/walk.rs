@@ -24,6 +24,12 @@ impl<'a> Walk<'a> {
         Walk { random, machine, bytes: Vec::new(), limit, over: false, purposes: vec![0] }
     }
 
+    /// A walk from this line on, over this book.
+    pub fn from(random: &'a mut Random, line: Line, book: Vec<u8>, limit: usize) -> Walk<'a> {
+        let machine = Machine { line, book, search: Search::AfterReleaser };
+        Walk { random, machine, bytes: Vec::new(), limit, over: false, purposes: vec![0] }
+    }
+
     /// Opens a line, now and then after refused events.
     pub fn start(random: &'a mut Random, limit: usize) -> Walk<'a> {
         let mut walk = Walk::new(random, limit);
@@ -79,16 +85,7 @@ impl<'a> Walk<'a> {
 
     /// How many records fit from a place, at most 65,535.
     pub fn room(&self, place: u32) -> u32 {
-        let (mut fit, mut not) = (0u32, 65_536u32);
-        while fit + 1 < not {
-            let middle = (fit + not) / 2;
-            if self.line().fits(u64::from(place), u64::from(middle)) {
-                fit = middle;
-            } else {
-                not = middle;
-            }
-        }
-        fit
+        self.line().room(place)
     }
 
     // ---- single acts; each says whether there was something to do ----
