@@ -3,11 +3,13 @@
 //! holding lane is the pointer, so no lane keeps one. Flags and busy lanes are the bits of two
 //! words and gathered lanes are counted, so that only a completed ordered call walks over the lanes.
 //! A waiting lane keeps the number of releases before its wait, and its row of the lent report grows
-//! at the wake.
+//! at the wake. The line and its steps are those of the single calls too (`single/inplace.rs`): what
+//! a step tells is printed here, and stored in the bytes of an answer there.
 
 use crate::proved::{Report, LANES};
 use crate::text::{least_room, Text};
 use crate::tiling::Tiling;
+use crate::told::{Printed, Told};
 use crate::waiting;
 
 /// The longest sheet that is run; a longer one gets 17. Line numbers have at most five digits then.
@@ -43,8 +45,8 @@ enum Phase {
     Gathered(u16),
 }
 
-/// The line, the lent book, the text and the lent report. A bit of `flags` and `busy` is the lane of its number.
-struct Line<'a, const PLAIN: bool> {
+/// The line, the lent book and what is told. A bit of `flags` and `busy` is the lane of its number.
+pub struct Line<'a, T> {
     lanes: u8,
     capacity: u32,
     size: u32,
@@ -58,12 +60,11 @@ struct Line<'a, const PLAIN: bool> {
     phase: [Phase; LANES],
     tiling: Tiling,
     book: &'a mut [u8],
-    text: Text<'a, PLAIN>,
-    report: &'a mut Report,
+    pub told: T,
 }
 
 /// A refusal's number.
-struct Refusal(usize);
+pub struct Refusal(pub usize);
 
 type Done = Result<(), Refusal>;
 
@@ -76,7 +77,7 @@ fn purpose_of(code: u8) -> Option<Purpose> {
     }
 }
 
-impl<const PLAIN: bool> Line<'_, PLAIN> {
+impl<T: Told> Line<'_, T> {
     /// The index of a lane. An unopened line has no lane, so 4 is looked for only where 8 applies.
     #[inline(always)]
     fn lane(&self, lane: u8) -> Result<usize, Refusal> {
@@ -105,7 +106,7 @@ impl<const PLAIN: bool> Line<'_, PLAIN> {
         self.book[..capacity as usize].fill(0);
         self.lanes = lanes;
         self.capacity = capacity;
-        self.text.two(b"open ", lanes as u32, capacity);
+        self.told.open(lanes, capacity);
         Ok(())
     }
 
@@ -122,10 +123,10 @@ impl<const PLAIN: bool> Line<'_, PLAIN> {
         self.flags |= 1 << i;
         if alone {
             self.phase[i] = Phase::Holding(purpose);
-            self.text.one(b"holds ", self.pointer);
+            self.told.holds(self.pointer);
         } else {
             self.phase[i] = Phase::Waiting { purpose, told: self.releases };
-            self.text.word(b"waits\n");
+            self.told.waits();
         }
         Ok(())
     }
@@ -136,7 +137,7 @@ impl<const PLAIN: bool> Line<'_, PLAIN> {
         match self.phase[i] {
             Phase::Woken(purpose) => {
                 self.phase[i] = Phase::Holding(purpose);
-                self.text.one(b"holds ", self.pointer);
+                self.told.holds(self.pointer);
                 Ok(())
             }
             Phase::Waiting { .. } => Err(Refusal(14)),
@@ -158,7 +159,7 @@ impl<const PLAIN: bool> Line<'_, PLAIN> {
         let next = among.trailing_zeros() as usize;
         if let Phase::Waiting { purpose, told } = self.phase[next] {
             self.phase[next] = Phase::Woken(purpose);
-            waiting::end_wait(self.report, next, self.releases - told);
+            self.told.end_wait(next, self.releases - told);
         }
         Some(next)
     }
@@ -185,7 +186,7 @@ impl<const PLAIN: bool> Line<'_, PLAIN> {
         self.pointer = start + count as u32;
         self.make_busy(i, count, busy);
         let woken = self.release(i);
-        self.text.region(start, count as u32, woken);
+        self.told.region(start, count as u32, woken);
         Ok(())
     }
 
@@ -206,7 +207,7 @@ impl<const PLAIN: bool> Line<'_, PLAIN> {
     fn store(&mut self, position: usize, record: &[u8; 8]) {
         self.book[position..position + 8].copy_from_slice(record);
         self.size = self.size.max(position as u32 + 8);
-        self.text.one(b"wrote ", position as u32);
+        self.told.wrote(position as u32);
     }
 
     #[inline(always)]
@@ -223,12 +224,12 @@ impl<const PLAIN: bool> Line<'_, PLAIN> {
     fn find(&mut self, place: u32) {
         let position = self.tiling.position(place);
         if position + 8 > self.size as u64 {
-            self.text.word(b"none\n");
+            self.told.none();
             return;
         }
         let at = position as usize;
         let record = self.book[at..at + 8].try_into().expect("eight bytes");
-        self.text.record(u64::from_be_bytes(record));
+        self.told.record(u64::from_be_bytes(record));
     }
 
     #[inline(always)]
@@ -273,7 +274,7 @@ impl<const PLAIN: bool> Line<'_, PLAIN> {
         let i = self.whole(lane)?;
         self.phase[i] = Phase::Idle;
         let woken = self.release(i);
-        self.text.freed(woken);
+        self.told.freed(woken);
         Ok(())
     }
 
@@ -294,9 +295,9 @@ impl<const PLAIN: bool> Line<'_, PLAIN> {
         if self.gathered == self.lanes as u32 {
             let before = self.pointer;
             self.start_all();
-            self.text.two(b"ordered ", before, total);
+            self.told.ordered(before, total);
         } else {
-            self.text.word(b"gathered\n");
+            self.told.gathered();
         }
         Ok(())
     }
@@ -326,7 +327,7 @@ impl<const PLAIN: bool> Line<'_, PLAIN> {
         }
         self.tiling.set(&view);
         self.pointer = 0;
-        self.text.word(b"view\n");
+        self.told.view();
         Ok(())
     }
 
@@ -348,20 +349,20 @@ impl<const PLAIN: bool> Line<'_, PLAIN> {
             return Err(Refusal(15));
         }
         self.pointer = to as u32;
-        self.text.one(b"seek ", self.pointer);
+        self.told.seek(self.pointer);
         Ok(())
     }
 
-    /// The event of a kind whose body starts `rest`: its line, and the length of its body. 2 or 3,
+    /// The event of a kind whose body starts `rest`: what it tells, and the length of its body. 2 or 3,
     /// which end a run, where there is no such event.
     #[inline(always)]
-    fn event(&mut self, kind: u8, rest: &[u8]) -> Result<usize, Refusal> {
+    pub fn event(&mut self, kind: u8, rest: &[u8]) -> Result<usize, Refusal> {
         // Gives the body of this many bytes to the call; 3 where the sheet ends before.
         macro_rules! with_body {
             ($length:literal, $body:ident => $call:expr) => {{
                 let Some($body) = rest.first_chunk::<$length>() else { return Err(Refusal(3)) };
                 if let Err(refusal) = $call {
-                    self.text.refused(refusal.0);
+                    self.told.refused(refusal.0);
                 }
                 Ok($length)
             }};
@@ -382,7 +383,21 @@ impl<const PLAIN: bool> Line<'_, PLAIN> {
             _ => Err(Refusal(2)),
         }
     }
+}
 
+impl<'a, T: Copy> Line<'a, T> {
+    pub fn book(&self) -> &[u8] {
+        self.book
+    }
+
+    /// Makes this line like another, over its own book and with what it last told.
+    pub fn become_like(&mut self, other: &Line<'a, T>) {
+        let (book, told) = (std::mem::take(&mut self.book), self.told);
+        *self = Line { book, told, tiling: other.tiling.clone(), ..*other };
+    }
+}
+
+impl<const PLAIN: bool> Line<'_, Printed<'_, PLAIN>> {
     /// Counts the waits that the run leaves. A waiting lane has its flag up.
     fn leave_waits(&mut self) {
         let mut flagged = self.flags;
@@ -390,7 +405,7 @@ impl<const PLAIN: bool> Line<'_, PLAIN> {
             let lane = flagged.trailing_zeros() as usize;
             flagged &= flagged - 1;
             if let Phase::Waiting { .. } = self.phase[lane] {
-                waiting::leave_wait(self.report, lane);
+                waiting::leave_wait(self.told.report, lane);
             }
         }
     }
@@ -412,11 +427,9 @@ fn eight(body: &[u8], at: usize) -> &[u8; 8] {
     body[at..at + 8].try_into().expect("eight bytes")
 }
 
-fn unopened<'a, const PLAIN: bool>(
-    book: &'a mut [u8],
-    text: &'a mut [u8],
-    report: &'a mut Report,
-) -> Line<'a, PLAIN> {
+/// The unopened line over a book.
+#[inline(always)]
+pub fn unopened<T: Told>(book: &mut [u8], told: T) -> Line<'_, T> {
     Line {
         lanes: 0,
         capacity: 0,
@@ -430,8 +443,7 @@ fn unopened<'a, const PLAIN: bool>(
         phase: [Phase::Idle; LANES],
         tiling: Tiling::plain(),
         book,
-        text: Text::new(text),
-        report,
+        told,
     }
 }
 
@@ -455,19 +467,19 @@ fn run_by<const PLAIN: bool>(
     if sheet.len() > MOST_SHEET || waiting::is_full(report) {
         return refuse_run::<PLAIN>(text, 17);
     }
-    let mut line = unopened::<PLAIN>(book, text, report);
+    let mut line = unopened(book, Printed::<PLAIN> { text: Text::new(text), report });
     let mut rest = sheet;
     while let [kind, after @ ..] = rest {
         match line.event(*kind, after) {
             Ok(length) => rest = &after[length..],
             Err(refusal) => {
-                line.text.refused(refusal.0);
+                line.told.refused(refusal.0);
                 break;
             }
         }
     }
     line.leave_waits();
-    line.text.end(line.size, line.pointer)
+    line.told.text.end(line.size, line.pointer)
 }
 
 /// Runs a sheet from an unopened line: the printed lines at the start of `text`, and their length;

@@ -1,7 +1,8 @@
-//! Made-up sheets from a seed: random events that take no account of the state of the line. Books
-//! and reports to lend with them.
+//! Made-up sheets and single calls from a seed: random events that take no account of the state of
+//! the line. Books and reports to lend with them.
 
 use crate::proved::{Report, Row, LANES};
+use crate::single::Calls;
 
 /// Marsaglia's xorshift of 64 bits with a final product.
 pub struct Random(u64);
@@ -182,6 +183,29 @@ pub fn sheet(random: &mut Random) -> Vec<u8> {
         sheet.truncate(random.below(sheet.len() as u64 + 1) as usize);
     }
     sheet
+}
+
+/// Some hundreds of single calls. Now and then a body is cut short, or has bytes after its fields.
+pub fn calls(random: &mut Random) -> Calls {
+    let setting = setting(random);
+    let mut calls = Calls::default();
+    if random.one_in(4) {
+        calls.add(2, &[0, 0]);
+        calls.add(1, &[[0, 129][random.below(2) as usize], 0, 0, 0, 64]);
+        calls.add(1, &[3, 0, random.below(2) as u8, 0, 7]);
+    }
+    calls.add(1, &body(random, &setting, 1));
+    for _ in 0..random.below(600) {
+        let kind = kind(random, &setting);
+        let mut body = body(random, &setting, kind);
+        match random.below(50) {
+            0 => body.truncate(random.below(body.len() as u64 + 1) as usize),
+            1 => body.push(random.below(256) as u8),
+            _ => {}
+        }
+        calls.add(kind, &body);
+    }
+    calls
 }
 
 /// A sheet with some of its bytes changed.

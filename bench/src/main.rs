@@ -1,14 +1,17 @@
-//! `bench`: checks that the proved and the in-place program agree, then times both and prints
-//! tables. `bench check` does the first alone. `bench drive PROGRAM N WORKLOAD` runs one program alone N times, for a profiler.
+//! `bench`: checks that the proved and the in-place programs agree, then times both and prints
+//! tables: of sheets, and of single calls. `bench check` does the first alone, `bench calls` leaves
+//! out the sheets. `bench drive PROGRAM N WORKLOAD` runs one program alone N times, for a profiler.
 
 mod check;
 mod inplace;
 mod made;
 mod proved;
 mod sheets;
+mod single;
 mod text;
 mod tiling;
 mod timing;
+mod told;
 mod waiting;
 
 use sheets::MOST_LANES;
@@ -100,8 +103,32 @@ fn time_all() {
     print_load();
 }
 
-/// Whether the programs agree.
-fn agree() -> bool {
+fn time_calls() {
+    single::time_all();
+    println!();
+    print_load();
+}
+
+/// Whether the programs for single calls agree.
+fn agree_on_calls() -> bool {
+    match single::check() {
+        Err(difference) => {
+            println!("single calls: {difference}");
+            false
+        }
+        Ok(checked) => {
+            let (lists, calls) = (checked.lists, checked.calls);
+            println!(
+                "{lists} lists with {calls} single calls: same answers, same book; every word"
+            );
+            println!("and every refusal from 2 to 16 came up.\n");
+            true
+        }
+    }
+}
+
+/// Whether the programs for sheets agree.
+fn agree_on_sheets() -> bool {
     match check::check() {
         Err(difference) => {
             println!("the two programs differ: {difference}");
@@ -119,8 +146,9 @@ fn agree() -> bool {
     }
 }
 
-fn check_alone() -> ExitCode {
-    if agree() {
+/// Ends with 1 where programs differ.
+fn code(agree: bool) -> ExitCode {
+    if agree {
         ExitCode::SUCCESS
     } else {
         ExitCode::FAILURE
@@ -128,15 +156,29 @@ fn check_alone() -> ExitCode {
 }
 
 fn check_and_time() -> ExitCode {
-    if !agree() {
-        return ExitCode::FAILURE;
+    let agree = agree_on_sheets() && agree_on_calls();
+    if agree {
+        time_all();
+        time_calls();
     }
-    time_all();
-    ExitCode::SUCCESS
+    code(agree)
+}
+
+fn check_and_time_calls() -> ExitCode {
+    let agree = agree_on_calls();
+    if agree {
+        time_calls();
+    }
+    code(agree)
 }
 
 /// One program alone, on one workload.
 fn drive(program: &str, times: &str, workload: &str) -> ExitCode {
+    if let Ok(times) = times.parse() {
+        if single::drive(program, times, workload).is_some() {
+            return ExitCode::SUCCESS;
+        }
+    }
     let program = timing::PROGRAMS.iter().find(|known| known.name == program);
     let workload =
         sheets::workloads(LONGEST, MOST_LANES).into_iter().find(|(known, _)| *known == workload);
@@ -148,12 +190,18 @@ fn drive(program: &str, times: &str, workload: &str) -> ExitCode {
 }
 
 fn usage() -> ExitCode {
-    println!("use: bench | bench check | bench drive PROGRAM N WORKLOAD");
+    println!("use: bench | bench check | bench calls | bench drive PROGRAM N WORKLOAD");
     for program in timing::PROGRAMS {
         println!("program: {}", program.name);
     }
     for (name, _) in sheets::workloads(LONGEST, MOST_LANES) {
         println!("workload: {name}");
+    }
+    for program in single::PROGRAMS {
+        println!("program for single calls: {program}");
+    }
+    for name in single::names() {
+        println!("workload for single calls: {name}");
     }
     ExitCode::from(2)
 }
@@ -163,7 +211,8 @@ fn main() -> ExitCode {
     let words: Vec<&str> = words.iter().map(String::as_str).collect();
     match words.as_slice() {
         [] => check_and_time(),
-        ["check"] => check_alone(),
+        ["check"] => code(agree_on_sheets() && agree_on_calls()),
+        ["calls"] => check_and_time_calls(),
         ["drive", program, times, workload] => drive(program, times, workload),
         _ => usage(),
     }

@@ -16,7 +16,7 @@ pub struct Sheet {
 const BLOCK_RECORDS: u16 = 4;
 
 impl Sheet {
-    fn new(length: usize) -> Sheet {
+    pub fn new(length: usize) -> Sheet {
         Sheet { bytes: Vec::with_capacity(length), length, full: false }
     }
 
@@ -28,39 +28,39 @@ impl Sheet {
         }
     }
 
-    fn open(&mut self, lanes: u8, capacity: u32) {
+    pub fn open(&mut self, lanes: u8, capacity: u32) {
         self.add(&[&[0x01, lanes], &capacity.to_be_bytes()[..]].concat());
     }
 
-    fn want(&mut self, lane: u8, purpose: u8) {
+    pub fn want(&mut self, lane: u8, purpose: u8) {
         self.add(&[0x02, lane, purpose]);
     }
 
-    fn receive(&mut self, lane: u8) {
+    pub fn receive(&mut self, lane: u8) {
         self.add(&[0x03, lane]);
     }
 
-    fn take(&mut self, lane: u8, count: u16) {
+    pub fn take(&mut self, lane: u8, count: u16) {
         self.add(&[&[0x04, lane], &count.to_be_bytes()[..]].concat());
     }
 
-    fn write(&mut self, lane: u8, record: u64) {
+    pub fn write(&mut self, lane: u8, record: u64) {
         self.add(&[&[0x05, lane], &record.to_be_bytes()[..]].concat());
     }
 
-    fn read(&mut self, lane: u8) {
+    pub fn read(&mut self, lane: u8) {
         self.add(&[0x06, lane]);
     }
 
-    fn put(&mut self, lane: u8, place: u32, record: u64) {
+    pub fn put(&mut self, lane: u8, place: u32, record: u64) {
         self.add(&[&[0x07, lane], &place.to_be_bytes()[..], &record.to_be_bytes()].concat());
     }
 
-    fn look(&mut self, lane: u8, place: u32) {
+    pub fn look(&mut self, lane: u8, place: u32) {
         self.add(&[&[0x08, lane], &place.to_be_bytes()[..]].concat());
     }
 
-    fn free(&mut self, lane: u8) {
+    pub fn free(&mut self, lane: u8) {
         self.add(&[0x09, lane]);
     }
 
@@ -86,6 +86,10 @@ impl Sheet {
         self.add(&[&[0x0C, whence], &offset.to_be_bytes()[..]].concat());
     }
 
+    pub fn bytes(&self) -> &[u8] {
+        &self.bytes
+    }
+
     /// The bytes, filled up to the length by a call of two bytes while it fits.
     fn filled(mut self) -> Vec<u8> {
         while self.bytes.len() + 2 <= self.length {
@@ -96,7 +100,7 @@ impl Sheet {
 }
 
 /// A record that differs from those before it in all eight bytes, more or less.
-fn record(number: u64) -> u64 {
+pub fn record(number: u64) -> u64 {
     number.wrapping_mul(0x9E37_79B9_7F4A_7C15)
 }
 

@@ -1,6 +1,7 @@
 //! The view of the in-place program: all that a position needs, worked out when the view is set.
 
 /// The record within the tile of each record that the view shows, and the numbers of the rule.
+#[derive(Clone)]
 pub struct Tiling {
     displacement: u64,
     extent: u64,
