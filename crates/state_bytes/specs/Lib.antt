@@ -1,0 +1,3 @@
+-- The layout of a line's state in bytes.
+pub mod StateBytes
+pub mod Entries
