@@ -1,0 +1,3 @@
+-- The layout of an answer in bytes.
+pub mod AnswerBytes
+pub mod Held
