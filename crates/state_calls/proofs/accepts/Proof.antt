@@ -1,0 +1,16 @@
+-- `accepts` meets its contract: an arm for a refusal, and one for all else.
+use borrow.Author.Needs.{needs}
+use Rattle.state_calls.proofs.Answers.{not-refused}
+use Rattle.state_calls.proofs.accepts.Statement.{statement}
+use Rattle.state_calls.proofs.accepts.Tie as tie
+
+returns-2 : tie.Need-returns-2
+returns-2 c = not-refused (c .before .args .answer) (c .match .keys2)
+
+pub accepts-spec : {M : Type 1} → statement M
+accepts-spec =
+    tie.close
+    (tie.spec
+    (λ c. search needs)
+    (λ c. search needs)
+    returns-2)
