@@ -1,0 +1,2 @@
+-- Chains of calls over state bytes.
+pub mod Chains
