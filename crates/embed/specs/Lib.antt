@@ -1,2 +1,3 @@
 -- What the linked functions answer.
 pub mod Embedded
+pub mod AnswerText

@@ -13,6 +13,8 @@ use report::Report;
 use run::run_reported;
 use run_text::MOST_LAST;
 
+pub mod singly;
+
 // What a run over a report handed by value answers: the length of its text as `gudlemi_run` answers it, and the report as the run leaves it.
 pub struct Linked {
     pub length: usize,

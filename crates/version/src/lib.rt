@@ -6,12 +6,12 @@ ghost use Rattle.version.specs.Version.{versionLine, versionNumber};
 pub fn number() -> u32
     ensures { λ r. ⌜ r ≡ versionNumber ⌝ }
 {
-    20100
+    20200
 }
 
 // The line that a program prints of it.
 pub fn line() -> [u8; 14]
     ensures { λ r. ⌜ r ≡ versionLine ⌝ }
 {
-    *b"gudlemi 2.1.0\n"
+    *b"gudlemi 2.2.0\n"
 }
