@@ -1,5 +1,5 @@
-//! Safe functions over libembed.a, the proved library of the shared book: run a sheet, count how long its lanes waited,
-//! and find its events.
+//! Safe functions over libembed.a, the proved library of the shared book: make single calls on a line (`line`), run a
+//! whole sheet, count how long its lanes waited, and find its events.
 //!
 //! What a sheet and a book are, and each printed line, is in document 01; `embed/gudlemi.h` has the same functions for C.
 //!
@@ -7,7 +7,13 @@
 //! target/staticlib, name its folder in the environment variable GUDLEMI_LIB, best as an absolute path. A program that
 //! depends on this crate needs no link settings of its own.
 //!
-//! The functions keep no state, so threads may call them at once.
+//! The functions keep no state but in what they are handed, so threads may call them at once.
+
+pub mod line;
+
+pub use line::{answer_length, call_bytes, layout, state_length};
+pub use line::{Answer, Block, Line, Phase, Purpose, View, Whence};
+pub use line::{ANSWER_LENGTH, ANSWER_TOO_SHORT, LAYOUT, STATE_LENGTH, STATE_TOO_SHORT};
 
 #[cfg(test)]
 mod tests;

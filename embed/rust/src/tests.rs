@@ -1,6 +1,7 @@
 //! Tests of the wrapper: document 01's example, the edges of each buffer, and events found in a sheet; in `report` those
-//! of the report of waiting.
+//! of the report of waiting, and in `line` those of single calls.
 
+mod line;
 mod report;
 
 use super::{event_at, run, run_to_string, text_bound, EventAt};

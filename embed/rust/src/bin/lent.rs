@@ -7,13 +7,11 @@ mod stream;
 use gudlemi::{run_reported, text_bound, Report};
 use std::io::{self, BufReader, BufWriter, Read, Write};
 use std::process::ExitCode;
-use stream::{exit_by, read_item, write_item};
+use stream::{exit_by, read_bytes, read_item, write_item};
 
 /// The next number of a report: 8 bytes, big-endian.
 fn read_number(source: &mut impl Read) -> io::Result<u64> {
-    let mut bytes = [0; 8];
-    source.read_exact(&mut bytes)?;
-    Ok(u64::from_be_bytes(bytes))
+    read_bytes(source).map(u64::from_be_bytes)
 }
 
 /// A report: the lanes' rows, then the one for all.

@@ -1,4 +1,5 @@
-//! A stream, for the programs here: a row of byte strings, each preceded by its length as 4 bytes big-endian.
+//! Bytes that come one after the other, for the programs here. A stream is a row of items: byte strings, each preceded by
+//! its length as 4 bytes big-endian.
 
 use std::io::{self, Read, Write};
 use std::process::ExitCode;
@@ -9,10 +10,17 @@ pub fn read_item(source: &mut impl Read) -> io::Result<Option<Vec<u8>>> {
     if source.read(&mut length[..1])? == 0 {
         return Ok(None);
     }
-    source.read_exact(&mut length[1..])?;
+    length[1..].copy_from_slice(&read_bytes::<3>(source)?);
     let mut item = vec![0; u32::from_be_bytes(length) as usize];
     source.read_exact(&mut item)?;
     Ok(Some(item))
+}
+
+/// The next bytes, as many as the answer has; an error where the input ends before.
+pub fn read_bytes<const COUNT: usize>(source: &mut impl Read) -> io::Result<[u8; COUNT]> {
+    let mut bytes = [0; COUNT];
+    source.read_exact(&mut bytes)?;
+    Ok(bytes)
 }
 
 pub fn write_item(sink: &mut impl Write, item: &[u8]) -> io::Result<()> {
