@@ -12,9 +12,9 @@
  *     gudlemi_unopened(state, sizeof state);
  *     gudlemi_call(state, sizeof state, book, sizeof book, GUDLEMI_CALL_OPEN, open, 5, answer, sizeof answer);
  *     gudlemi_call(state, sizeof state, book, sizeof book, GUDLEMI_CALL_WANT, want, 2, answer, sizeof answer);
- *                                    (answer[0] is GUDLEMI_WORD_HOLDS; with another lane there, GUDLEMI_WORD_WAITS)
+ *                  (answer[0] is GUDLEMI_WORD_HOLDS; where another lane has the turn, GUDLEMI_WORD_WAITS)
  *     gudlemi_call(state, sizeof state, book, sizeof book, GUDLEMI_CALL_TAKE, take, 3, answer, sizeof answer);
- *                                    (GUDLEMI_WORD_REGION: lane 0 has places 0 and 1, and writes them by two 05)
+ *                  (GUDLEMI_WORD_REGION: lane 0 has places 0 and 1, and writes them by two 05)
  *
  * To link, with this header and libembed.a in the folder: cc main.c -I. -L. -lembed. From the library's repository the
  * archive is made with `rt staticlib embed`, which writes target/staticlib/libembed.a.
@@ -23,14 +23,14 @@
  *
  * What the caller owes, for every function below. The proof takes it for granted and the functions cannot test it:
  *
- *   - A pointer and the length after it name that many bytes, which may be read; those of `book`, `text` and `answer`,
- *     and of `state` where it is not const, may also be written. No length is above PTRDIFF_MAX.
+ *   - A pointer and the length after it name that many bytes, which may be read; those of `book` and `text`, and of
+ *     `state` and `answer` where they are not const, may also be written. No length is above PTRDIFF_MAX.
  *   - No pointer is null, also where the length is 0. With length 0 any pointer that is not null will do, as the
  *     address of a variable: nothing is read or written through it. (malloc(0) may answer null.)
  *   - `report` names a whole struct gudlemi_report that may be read and written, is not null, and is aligned to
  *     8 bytes as every variable of that type is. Each of its numbers has been set: memory fresh from malloc won't do.
- * - What is handed to one function shares no byte: neither `sheet`, `book`, `text` and `report`, nor `state`, `book`,
- *     `body` and `answer`, nor `answer` and `text`. (Of two that are both const it may.)
+ *   - What is handed to one function shares no byte: neither `sheet`, `book`, `text` and `report`, nor `state`,
+ *     `book`, `body` and `answer`, nor `answer` and `text`. (Of two that are both const it may.)
  *   - While a function runs, no other thread writes what it is handed as const, and none reads or writes the rest.
  *
  * The functions keep nothing from call to call but what lies in the bytes that you lend: no heap, no static data, no
@@ -86,22 +86,23 @@ extern "C" {
  *
  * The turn. One lane at a time holds it, and with it the pointer, the next place that is handed out. A release wakes
  * the next waiting lane by number after the releasing one, upwards and then from 0, not the one that has waited
- * longest; a lane is woken at the latest by the release that is as many releases on as it is lanes away.
+ * longest. A lane that waits d lanes above the one that has the turn, so counted, is woken by one of the next d
+ * releases.
  *
  * Regions. A lane that has its region writes or reads it without holding, also while another lane holds with purpose
- * 2. Who needs the book at rest sees that no lane is in phase 4. After the last record of its region a lane is idle;
- * with count 0 at once. A region cannot be given back. No call takes a turn, a wake or a region from a lane that has
- * died.
+ * 2. Who needs the book unchanged looks that no lane is in phase 4. After the last record of its region a lane is
+ * idle; with count 0 at once. A region cannot be given back. No call takes a turn, a wake or a region from a lane that
+ * makes no more calls.
  *
  * Records. A place counts records of 8 bytes as the view shows them; a position counts bytes from the book's start.
  * The size is the end of the furthest record written. A record that ends past the size is answered `none`, which uses
- * up a place of a reader's region; one below it that nobody has written is 0. After 01 the view is the plain one:
+ * up a place of a reader's region; one below it of which no byte was written is 0. After 01 the view is the plain one:
  * displacement 0, extent 1, one block (0, 1), so that place k is at 8 * k. The end of the book, in places, is the
  * number of places whose record starts below the size.
  *
  * A refused call changes nothing. Its number is the lowest that applies:
  *
- *    1  the state bytes are no line, or one that breaks a rule, as one that is kept with a shorter book than its own
+ *    1  the state bytes are no line, or one that breaks a rule, as where its capacity is above book_length
  *    2  the kind is not 01 to 0C
  *    3  the body is cut short
  *    4  a call other than 01 comes before the line is open
@@ -114,7 +115,7 @@ extern "C" {
  *       length 1 at least, starting at or past the end of the one before and ending within the extent; the others zero
  *   11  0B or 0C while a lane is not idle; 0A while a lane is neither idle nor gathered
  *   12  02 while a lane is gathered
- *   13  the lane's phase or purpose does not allow the call
+ *   13  the lane's phase or purpose does not allow the call, except where 14 applies
  *   14  03 to a waiting lane: no wake yet
  *   15  0C, or 04 of purpose 1, would put the pointer below 0 or above 65,536
  *   16  the records of 04 of purpose 0, of 07, or of 0A with all gathered so far, do not fit the capacity
@@ -138,8 +139,9 @@ enum { GUDLEMI_FROM_START = 0, GUDLEMI_FROM_POINTER = 1, GUDLEMI_FROM_END = 2 };
 enum {
     GUDLEMI_REFUSED_STATE = 1, GUDLEMI_REFUSED_KIND = 2, GUDLEMI_REFUSED_BODY = 3, GUDLEMI_REFUSED_UNOPENED = 4,
     GUDLEMI_REFUSED_OPENED = 5, GUDLEMI_REFUSED_LANES = 6, GUDLEMI_REFUSED_CAPACITY = 7, GUDLEMI_REFUSED_LANE = 8,
-    GUDLEMI_REFUSED_PURPOSE = 9, GUDLEMI_REFUSED_VIEW = 10, GUDLEMI_REFUSED_BUSY = 11, GUDLEMI_REFUSED_GATHERED = 12,
-    GUDLEMI_REFUSED_PHASE = 13, GUDLEMI_REFUSED_NO_WAKE = 14, GUDLEMI_REFUSED_POINTER = 15, GUDLEMI_REFUSED_ROOM = 16
+    GUDLEMI_REFUSED_PURPOSE = 9, GUDLEMI_REFUSED_WHENCE = 9, GUDLEMI_REFUSED_VIEW = 10,
+    GUDLEMI_REFUSED_NOT_IDLE = 11, GUDLEMI_REFUSED_GATHERED = 12, GUDLEMI_REFUSED_PHASE = 13,
+    GUDLEMI_REFUSED_NO_WAKE = 14, GUDLEMI_REFUSED_POINTER = 15, GUDLEMI_REFUSED_ROOM = 16
 };
 
 /* ---- Single calls ------------------------------------------------------------------------------------------------
@@ -177,8 +179,8 @@ enum {
  *      6 gathered  records: its count
  *
  * Bytes are a line where the mark, the layout and the reserved bytes are as in the table, and each entry is one of
- * this list. All other bytes of the table may be any, as N and the flags, though the line is then perhaps not sound.
- * Each line has one state, and each state is one line. */
+ * this list, with a purpose of 0 to 2. All other numbers may be any, as N, the flags, records and places, though the
+ * line is then perhaps not sound. Each line has one state, and each state is one line. */
 #define GUDLEMI_STATE_LENGTH 1216
 #define GUDLEMI_ANSWER_LENGTH 16
 #define GUDLEMI_LAYOUT 1
@@ -236,7 +238,7 @@ uint8_t gudlemi_unopened(uint8_t *state, size_t state_length);
 /* Makes one call on the line in `state`, over the book that belongs to it: the same bytes at each call, though they
  * may lie elsewhere. `body` has the fields of the kind; bytes past them are not looked at, fewer are refused with 3.
  *
- * Answer: 0 where the call was accepted, else the number of the refusal, 1 to 16; or, where state_length is below
+ * Status: 0 where the call was accepted, else the number of the refusal, 1 to 16; or, where state_length is below
  * GUDLEMI_STATE_LENGTH, GUDLEMI_STATE_TOO_SHORT, and else, where answer_length is below GUDLEMI_ANSWER_LENGTH,
  * GUDLEMI_ANSWER_TOO_SHORT.
  *
@@ -253,8 +255,8 @@ uint8_t gudlemi_call(uint8_t *state, size_t state_length,
 
 /* 1 where the bytes are a sound line, one that keeps all rules of document 01, with a book of this length, and else 0,
  * as where state_length is below GUDLEMI_STATE_LENGTH. book_length may be any number. Every call looks at this first,
- * and is refused with 1 where it is not so. A line that is not yet open is sound: see that GUDLEMI_NUMBER_LANES is not
- * 0. */
+ * and is refused with 1 where it is not so (a short state gets GUDLEMI_STATE_TOO_SHORT). A line that is not yet open
+ * is sound: where you need an open one, see that GUDLEMI_NUMBER_LANES is not 0. */
 uint8_t gudlemi_is_sound(const uint8_t *state, size_t state_length, size_t book_length);
 
 /* What a lane is doing: its entry of the state as one number, phase first. GUDLEMI_NOTHING where the bytes are no
@@ -290,8 +292,8 @@ uint64_t gudlemi_position(const uint8_t *state, size_t state_length, uint32_t pl
  * counts its events from 0), the word, the values, '\n'. Numbers are decimal, a record is 16 hexadecimal digits, and
  * where a release wakes no lane it is `wakes none`. The line stands at the start of `text`, with no 0 byte after it.
  *
- * Answer: its length; 0 where the bytes are no answer (fewer than GUDLEMI_ANSWER_LENGTH, a word above 12, or another
- * number than that answer has), and else, where text_length is below GUDLEMI_TEXT_LENGTH, GUDLEMI_TOO_SHORT. Both
+ * Answer: its length; 0 where the bytes are no answer (fewer than GUDLEMI_ANSWER_LENGTH, a word above 12, or any byte
+ * other than that answer has there), and else, where text_length is below GUDLEMI_TEXT_LENGTH, GUDLEMI_TOO_SHORT. Both
  * leave `text` as it was. A refusal may have any number here. */
 #define GUDLEMI_TEXT_LENGTH 56
 size_t gudlemi_answer_text(const uint8_t *answer, size_t answer_length, uint64_t number,
@@ -314,7 +316,7 @@ struct gudlemi_row {
     uint64_t times;   /* the waits that ended */
     uint64_t sum;     /* the releases that they took, added up */
     uint64_t largest; /* the most releases that one of them took */
-   uint64_t unended; /* the waits that had not ended when their sheet's run did; they are in none of the other three */
+    uint64_t unended; /* the waits that had not ended when their sheet's run did; they are in none of the others */
 };
 
 /* The report of waiting: 4,128 bytes with no gap between them, each number in the machine's own order of bytes.

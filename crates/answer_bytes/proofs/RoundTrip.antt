@@ -1,4 +1,4 @@
--- An answer's bytes say what the answer says and are read back as that answer; bytes that are an answer's are its bytes.
+-- An answer's bytes say what the answer says, and are read back as that answer where its values are of their types; bytes that are an answer's are its bytes.
 use Prim.Native.Nat.{ℕ, _≤_, _<_}
 use mathlib.Core.Path.{_≡_, refl, sym, ap, _∙_}
 use mathlib.Core.Bool.{true}
@@ -62,7 +62,7 @@ pub said-there : (a : Answer) (more : List ℕ) → saidIn (answerBytes a ++ mor
 said-there a more = ap (λ (v : List ℕ). saidOf v) (fields-back a more) ∙ said-back a
 
 -- ---- an answer whose values are of their types is read back
--- what the types hold of its values
+-- what reading back needs of its values, which the types of `Answer` hold
 abbrev pub AnswerFits : Answer → Type 0
 AnswerFits (Answer.Open n m) = n < 256
 AnswerFits (Answer.Holds p) = p .0 < 4294967296

@@ -5,8 +5,7 @@ use mathlib.Core.List.{List, [], _∷_, _++_}
 use lib.Dec.{eqb, leb}
 use lib.ListN.{getD, length, take}
 use Rattle.lists.specs.Lists.{sameNumbers}
-use Rattle.view.specs.View.{place}
-use Rattle.view.specs.declared.Position.{Position}
+use Rattle.view.specs.View.{place, position}
 use Rattle.waitlist.specs.NextLane.{wakesValues}
 use Rattle.waitlist.specs.declared.Wakes.{Wakes}
 use Rattle.event.specs.Event.{bytesOf, fieldsIn}
@@ -20,7 +19,7 @@ answerLengths = 1 ∷ 1 ∷ 1 ∷ 1 ∷ 8 ∷ 4 ∷ []
 abbrev pub answerLength : ℕ
 answerLength = 16
 
--- the lane that is woken and no other, as a count and that lane's number
+-- how many lanes are woken, 0 or 1, and which
 abbrev pub wakesNumbers : Wakes → List ℕ
 wakesNumbers w = length (wakesValues w) ∷ getD (wakesValues w) 0 0 ∷ []
 
@@ -52,10 +51,7 @@ abbrev pub wakesOf : ℕ → ℕ → Wakes
 wakesOf zero lane = Wakes.None
 wakesOf (suc k) lane = Wakes.Lane lane
 
-abbrev pub position : ℕ → Position
-position n = record { 0 = n }
-
--- the answers with these numbers, by their words' numbers; a value is cut to the bytes that its field has in an answer
+-- the answers with these numbers, by their words' numbers; a value is cut to the type that `Answer` gives it
 abbrev pub answersFrom : ℕ → Wakes → ℕ → ℕ → List Answer
 answersFrom number wakes first second =
     Answer.Refused number

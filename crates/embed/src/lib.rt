@@ -13,7 +13,7 @@ use report::Report;
 use run::run_reported;
 use run_text::MOST_LAST;
 
-pub mod singly;
+pub mod single_calls;
 
 // What a run over a report handed by value answers: the length of its text as `gudlemi_run` answers it, and the report as the run leaves it.
 pub struct Linked {
@@ -21,7 +21,7 @@ pub struct Linked {
     pub report: Report,
 }
 
-// The length of a run's text, or the greatest number where there is none.
+// The length of a printed text, or the greatest number where there is none.
 fn length_of(printed: Printed) -> usize
     ensures { λ r. ⌜ r ≡ lengthPrinted printed ⌝ }
 {

@@ -1,12 +1,12 @@
 -- The lengths of a state's parts, that its parts stored one after the other are the state, and what the test of a state says.
-use Prim.Native.Nat.{ℕ, _+_, _*_, _≤_}
-use mathlib.Core.Path.{_≡_, refl}
+use Prim.Native.Nat.{ℕ, zero, suc, _+_, _*_, _≤_}
+use mathlib.Core.Path.{_≡_, refl, ap, _∙_}
 use mathlib.Core.Bool.{true}
 use mathlib.Core.List.{List, [], _∷_, _++_}
 use native.Mathlib.Omega.{arith}
 use lib.Dec.{eqb, leb}
-use lib.ListN.{drop, getD, length, length-append}
-use lib.Seq.{sets}
+use lib.ListN.{drop, getD, length, length-append, length-drop, length-map}
+use lib.Seq.{length-take-le, sets}
 use borrow.Author.Tests.{eqb-true, leb-true}
 use Rattle.limits.specs.Limits.{mostLanes}
 use Rattle.lists.specs.Lists.{allPass}
@@ -19,7 +19,7 @@ use Rattle.line.specs.declared.Lane.{Lane}
 use Rattle.line.specs.declared.Line.{Line}
 use Rattle.event.specs.Event.{blockNumbers, bytesOf}
 use Rattle.event.proofs.Fields.{bytes-length}
-use Rattle.state_bytes.specs.StateBytes.{entriesAt, entriesIn, entriesOf, entryBytes, headLengths, headNumbers, isEntry, isState, layout, mark, numberAt, stateBytes, stateLength}
+use Rattle.state_bytes.specs.StateBytes.{entriesAt, entriesIn, entriesOf, entryBytes, flagsAt, headLengths, headNumbers, isEntry, isState, laneOf, layout, lineIn, mark, numberAt, stateBytes, stateLength}
 use Rattle.state_bytes.proofs.Walk.{entry-length}
 
 -- a block that stands for none
@@ -101,3 +101,18 @@ parts-of bytes e =
 -- bytes that are a line's are as many
 pub state-long : (bytes : List ℕ) → isState bytes ≡ true → stateLength ≤ length bytes
 state-long bytes e = parts-of bytes e .long
+
+-- the line that bytes name has arrays of their lengths
+entries-count : (n : ℕ) (bytes : List ℕ) → length (entriesIn n bytes) ≡ n
+unfolding entriesIn
+entries-count zero bytes = refl
+entries-count (suc n) bytes = ap suc (entries-count n (drop 8 bytes))
+
+pub line-shaped : (bytes : List ℕ) → stateLength ≤ length bytes → Shaped (lineIn bytes)
+line-shaped bytes h =
+    let room : mostLanes ≤ length (drop flagsAt bytes) = simp length-drop (omega arith) in
+    record {
+      lanes-length = length-map (entriesIn mostLanes (drop entriesAt bytes)) laneOf ∙ entries-count mostLanes (drop entriesAt bytes);
+      flags-length = length-take-le mostLanes (drop flagsAt bytes) room;
+      blocks-length = refl;
+    }

@@ -43,7 +43,7 @@ phasesFrom purpose records k =
 abbrev pub phaseOf : List ℕ → Phase
 phaseOf numbers = getD (phasesFrom (purposeOf (getD numbers 1 0)) (getD numbers 2 0) (place (getD numbers 3 0))) (getD numbers 0 0) Phase.Idle
 
--- numbers are an entry where they are those of the phase that they name: a number that the phase does not have is 0
+-- numbers are an entry where they are those of the phase that they name: what the phase does not carry is 0, but for a reading lane's purpose
 abbrev pub isEntry : List ℕ → Bool
 isEntry numbers = sameNumbers numbers (entryNumbers (phaseOf numbers))
 

@@ -1,4 +1,4 @@
-// The entries of a state: what each lane is doing, as four numbers of eight bytes.
+// The entries of a state: what each lane is doing, as four numbers in eight bytes.
 ghost use mathlib.Core.Path.{_≡_};
 ghost use mathlib.Core.List.{[], _∷_};
 ghost use Prim.Native.Nat.{_+_, _≤_};
@@ -130,7 +130,7 @@ fn entry_at(bytes: &[u8], at: usize) -> Entry
     }
 }
 
-// Whether all entries are.
+// Whether each entry has the numbers of the phase that it names.
 pub fn entries_ok(bytes: &[u8]) -> bool
     requires { ⌜ flagsAt ≤ length (now bytes) ⌝ }
     ensures { λ r. ⌜ r ≡ allPass isEntry (entriesIn mostLanes (drop entriesAt (now (bytes .entry)))) ⌝ }

@@ -1,4 +1,4 @@
-// One call over the state bytes of a line, and what is asked of them; none of the functions requires anything.
+// One call over the state bytes of a line, and what is asked of them; none of the public functions requires anything.
 ghost use mathlib.Core.Path.{_≡_};
 ghost use Rattle.steps.specs.Answer.{saidBy};
 ghost use Rattle.state_calls.specs.StateCalls.{CallMeets, callState, statusOf, unopenedStatus, unopenedTo};
@@ -19,8 +19,8 @@ pub const STATE_TOO_SHORT: u8 = 254;
 
 pub const ANSWER_TOO_SHORT: u8 = 255;
 
-// Whether an answer accepts its call.
-fn accepts(answer: Answer) -> bool
+// Whether an answer is that of an accepted call.
+fn is_accepted(answer: Answer) -> bool
     ensures { λ r. ⌜ r ≡ saidBy answer .accepted ⌝ }
 {
     match answer {
@@ -56,7 +56,7 @@ pub fn call_state(state: &mut [u8], book: &mut [u8], kind: u8, body: &[u8], answ
     let outcome = call_bytes(line_in(state), book, kind, body);
     let given = outcome.answer;
     put_answer(answer, given);
-    if !accepts(given) {
+    if !is_accepted(given) {
         return status_of(given);
     }
     let line = outcome.line;

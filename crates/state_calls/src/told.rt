@@ -43,7 +43,7 @@ pub fn lane(state: &[u8], lane: u8) -> u64
     number64(state, 64 + 8 * i)
 }
 
-// A byte as a number of 64 bits.
+// A byte as a number of 64 bits; its contract spares its callers to show that the byte fits.
 fn wide(x: u8) -> u64
     ensures { λ r. ⌜ r ≡ x ⌝ }
 {

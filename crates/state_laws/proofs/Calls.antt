@@ -1,11 +1,11 @@
--- One call over state bytes: what it comes to on the state of a sound line, and that a refused call alters neither state nor book, whatever the bytes.
+-- One call over the state bytes of a sound line is the step, with its answer.
 use Prim.Native.Nat.{ℕ, _+_, _≤_}
 use mathlib.Core.Path.{_≡_, sym, ap, _∙_}
 use mathlib.Core.List.{List, _++_}
 use native.Mathlib.Nat.{zero-add}
 use native.Mathlib.Omega.{arith}
 use lib.ListN.{drop, length, length-append, length-map}
-use lib.Seq.{drop-at, length-sets, sets, sets-eq}
+use lib.Seq.{drop-at, sets, sets-eq}
 use Rattle.lists.proofs.Tests.{by-test}
 use Rattle.line.specs.Line.{Shaped, flagFor, on}
 use Rattle.line.specs.declared.Line.{Line}
@@ -76,9 +76,6 @@ module _ (x : State) (G : GoodState x) (kind : ℕ) (body more answer : List ℕ
 
   pub answer-after : called .answer ≡ sets answer 0 (answerBytes (step-of .answer))
   answer-after = ap (λ (c : Called). c .answer) is-step
-
-  pub answer-room : answerLength ≤ length (called .answer)
-  answer-room = omega (arith, ap length answer-after, length-sets answer 0 (answerBytes (step-of .answer)))
 
   -- what the answer's bytes say is what the answer says
   pub said-after : saidIn (called .answer) ≡ saidBy (step-of .answer)

@@ -332,7 +332,7 @@ impl Line {
         &self.state
     }
 
-    /// Whether the line keeps all rules of document 01 with a book of this length; if not every call is refused with 1.
+    /// Whether the line keeps all rules of document 01 with a book of this length; if not, every call is refused with 1.
     pub fn is_sound(&self, book_length: usize) -> bool {
         linked::is_sound(&self.state, book_length) == 1
     }

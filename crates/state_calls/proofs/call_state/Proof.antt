@@ -59,7 +59,7 @@ returns-4 c =
     let put = tested .before .before .before in
     let d = put .before .before .before .before in
     let s = start d in
-    meets-refused (s .args .state .now) (s .args .answer .now) (step-of d) (called-of d) (met d .answer) (sym (tested .accepts .ensures) ∙ not-true _ (c .before .if4 .taken)) (c .status-of .ensures) (met d .book) (put .put-answer2 .ensures)
+    meets-refused (s .args .state .now) (s .args .answer .now) (step-of d) (called-of d) (met d .answer) (sym (tested .is-accepted .ensures) ∙ not-true _ (c .before .if4 .taken)) (c .status-of .ensures) (met d .book) (put .put-answer2 .ensures)
 
 returns-5 : tie.Need-returns-5
 returns-5 c =
@@ -69,7 +69,7 @@ returns-5 c =
     let put = tested .before .before .before in
     let d = put .before .before .before .before in
     let s = start d in
-    meets-accepted (s .args .state .now) (s .args .answer .now) (step-of d) (called-of d) (met d .answer) (sym (tested .accepts .ensures) ∙ not-false _ (fourth .if4 .left)) (met d .line) (stored .put-state .ensures) (met d .book) (put .put-answer2 .ensures)
+    meets-accepted (s .args .state .now) (s .args .answer .now) (step-of d) (called-of d) (met d .answer) (sym (tested .is-accepted .ensures) ∙ not-false _ (fourth .if4 .left)) (met d .line) (stored .put-state .ensures) (met d .book) (put .put-answer2 .ensures)
 
 pub call-state-spec : {M : Type 1} → statement M
 call-state-spec =

@@ -10,7 +10,7 @@ pub(crate) const TEXT_LENGTH: usize = 56;
 #[derive(Clone, Copy, Debug, PartialEq, Eq)]
 #[must_use = "an answer may be a refusal, tell a lane to wait, or name a lane that was woken"]
 pub enum Answer {
-    /// The call was refused with this number, 1 to 16, and neither the line nor the book was altered.
+    /// The call was refused with this number, 1 to 16 from a call, and neither the line nor the book was altered.
     Refused(u8),
     /// The line is open.
     Open { lanes: u8, capacity: u32 },

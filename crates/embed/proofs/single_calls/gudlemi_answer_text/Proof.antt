@@ -11,8 +11,8 @@ use Rattle.answer_text.specs.Printing.{printedTo, printingOf}
 use Rattle.answer_text.specs.declared.Printed.{Printed}
 use Rattle.embed.specs.Embedded.{lengthPrinted}
 use borrow.Author.Needs.{needs}
-use Rattle.embed.proofs.singly.gudlemi_answer_text.Statement.{statement}
-use Rattle.embed.proofs.singly.gudlemi_answer_text.Tie as tie
+use Rattle.embed.proofs.single_calls.gudlemi_answer_text.Statement.{statement}
+use Rattle.embed.proofs.single_calls.gudlemi_answer_text.Tie as tie
 
 an-answer : (c : tie.Else1) → isAnswer (c .before .before .before .before .args .answer .now) ≡ true
 an-answer c = sym (c .before .is-answer .ensures) ∙ not-false _ (c .if1 .left)

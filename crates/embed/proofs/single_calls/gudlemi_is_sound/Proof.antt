@@ -1,8 +1,8 @@
 -- `gudlemi_is_sound` meets its contract: the test as a number.
 use borrow.Author.Needs.{needs}
 use mathlib.Core.Path.{sym, _∙_}
-use Rattle.embed.proofs.singly.gudlemi_is_sound.Statement.{statement}
-use Rattle.embed.proofs.singly.gudlemi_is_sound.Tie as tie
+use Rattle.embed.proofs.single_calls.gudlemi_is_sound.Statement.{statement}
+use Rattle.embed.proofs.single_calls.gudlemi_is_sound.Tie as tie
 
 returns : tie.Need-returns
 returns c = rw (sym (c .before .is-sound .ensures) ∙ c .if1 .taken)
