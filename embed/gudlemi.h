@@ -36,7 +36,8 @@
  * The functions keep nothing from call to call but what lies in the bytes that you lend: no heap, no static data, no
  * locks. They end on all bytes. Several threads can call them at once, each with its own book, text, report, state and
  * answer; what is const can be read by several. A line that several threads or processes call has one caller at a
- * time: a lock of yours, or one thread that makes all calls.
+ * time: a lock of yours, or one thread that makes all calls. (docs/DEPLOYMENT.md of the library's repository has a
+ * process that does so for lanes that are processes, and outlives power cuts.)
  */
 #ifndef GUDLEMI_H
 #define GUDLEMI_H

@@ -26,7 +26,7 @@ use trial::plan::Sizes;
 use trial::run::Trial;
 
 const USE: &str = "use: home serve FOLDER LANES CAPACITY
-     home trial FOLDER [--lanes 64] [--books 11] [--cuts 110] [--operations 16] [--most 4] [--capacity 65536]
+     home trial FOLDER [--lanes 64] [--books 12] [--cuts 120] [--operations 16] [--most 4] [--capacity 65536]
                 [--seed 1] [--linebook PROGRAM]
      home check FOLDER [LINEBOOK]
      home finish FOLDER LANE";

@@ -5,9 +5,12 @@ use crate::call::Call;
 use crate::finish::finish;
 use crate::lane::Lane;
 use crate::serve::serve;
+use crate::trial::random::Random;
 use gudlemi::{Answer, Purpose};
 use std::fs;
+use std::io::Write;
 use std::os::unix::fs::FileExt;
+use std::os::unix::net::UnixStream;
 use std::thread;
 
 const WANT: Call = Call::Want(Purpose::SharedWrite);
@@ -49,6 +52,26 @@ fn a_lost_reply_is_asked_for_again() {
         Answer::Region { start: 0, count: 2, wakes: None }
     );
     assert_eq!(lane.asked_again, 1);
+}
+
+/// Made-up bytes by many connections, each of which then ends: home goes on, and the line is as it was.
+#[test]
+fn bytes_that_are_no_requests() {
+    let folder = served();
+    let mut lane = Lane::new(&folder, 0);
+    let _ = answer(&mut lane, WANT);
+    let list = fs::read(folder.calls()).unwrap();
+    let mut random = Random::new(1, &[]);
+    for _ in 0..300 {
+        let bytes: Vec<u8> = (0..random.below(60)).map(|_| random.below(256) as u8).collect();
+        let mut connection = UnixStream::connect(folder.socket()).unwrap();
+        connection.write_all(&bytes).unwrap();
+    }
+    assert_eq!(fs::read(folder.calls()).unwrap(), list);
+    assert_eq!(
+        answer(&mut lane, Call::Take(0)),
+        Answer::Region { start: 0, count: 0, wakes: None }
+    );
 }
 
 /// A lane of the same number that starts to count anew does not get another call's answer.

@@ -17,6 +17,7 @@ pub struct Places {
     lanes: Vec<LaneCalls>,
     /// Where records were written by 05, with the lane.
     written: BTreeMap<u64, u8>,
+    pub calls: usize,
     pub takes: u64,
     pub ordered: u64,
     pub whole_book: u64,
@@ -40,7 +41,7 @@ struct LaneCalls {
 
 impl Places {
     pub fn of(made: &[Made]) -> io::Result<Places> {
-        let mut places = Places::default();
+        let mut places = Places { calls: made.len(), ..Places::default() };
         for call in made {
             places.add(call).map_err(|fault| {
                 invalid(&format!("{fault}, in the call with the answer {}", call.answer))
@@ -182,8 +183,9 @@ impl Places {
 impl fmt::Display for Places {
     fn fmt(&self, f: &mut fmt::Formatter<'_>) -> fmt::Result {
         let (lanes, written) = (self.lanes.len(), self.written());
-        let Places { takes, ordered, whole_book, puts, refused, .. } = self;
-        write!(f, "{lanes} lanes, {takes} takes, {ordered} ordered calls, {whole_book} turns with the whole book, {puts} puts, ")?;
-        write!(f, "{refused} refusals, {written} records written once and read once")
+        let Places { calls, takes, ordered, whole_book, puts, refused, .. } = self;
+        write!(f, "{lanes} lanes, {calls} calls: {takes} takes, {ordered} ordered, ")?;
+        write!(f, "{whole_book} turns with the whole book, {puts} puts, {refused} refused; ")?;
+        write!(f, "{written} records, each written once and read once")
     }
 }

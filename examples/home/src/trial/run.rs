@@ -44,7 +44,7 @@ impl Trial {
         let sizes =
             Sizes { lanes: 64, capacity: 65_536, operations: 16, most: 4, seed: 1, book: 1 };
         let mut trial =
-            Trial { folder: folder.into(), sizes, books: 11, cuts: 110, linebook: None };
+            Trial { folder: folder.into(), sizes, books: 12, cuts: 120, linebook: None };
         for pair in words.chunks(2) {
             match pair {
                 ["--lanes", value] => trial.sizes.lanes = number(value)?,
