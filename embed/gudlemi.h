@@ -95,6 +95,10 @@ extern "C" {
  * idle; with count 0 at once. A region cannot be given back. No call takes a turn, a wake or a region from a lane that
  * makes no more calls.
  *
+ * Ordered calls. 0A is accepted while all lanes are idle or gathered, and while a lane is gathered no 02 is: see that
+ * all lanes are ready to enter before the first one does. After the last 0A each lane's region is told by gudlemi_lane:
+ * phase 4 with its first place and its records, or idle where its count is 0.
+ *
  * Records. A place counts records of 8 bytes as the view shows them; a position counts bytes from the book's start.
  * The size is the end of the furthest record written. A record that ends past the size is answered `none`, which uses
  * up a place of a reader's region; one below it of which no byte was written is 0. After 01 the view is the plain one:
@@ -261,8 +265,9 @@ uint8_t gudlemi_call(uint8_t *state, size_t state_length,
 uint8_t gudlemi_is_sound(const uint8_t *state, size_t state_length, size_t book_length);
 
 /* What a lane is doing: its entry of the state as one number, phase first. GUDLEMI_NOTHING where the bytes are no
- * line, or the lane is not below N, or not below 128. Whether the line is sound is not looked at, here and in the next
- * two. A line that is not sound may have any numbers. */
+ * line, or the lane is not below N, or not below 128; the phase of that, by GUDLEMI_PHASE, is 255, which is none.
+ * Whether the line is sound is not looked at, here and in the next two. A line that is not sound may have any
+ * numbers. */
 uint64_t gudlemi_lane(const uint8_t *state, size_t state_length, uint8_t lane);
 
 enum {
