@@ -11,7 +11,7 @@
 
 pub mod line;
 
-pub use line::{answer_length, call_bytes, layout, state_length};
+pub use line::{answer_length, call_bytes, kind, layout, state_length};
 pub use line::{Answer, Block, Line, Phase, Purpose, View, Whence};
 pub use line::{ANSWER_LENGTH, ANSWER_TOO_SHORT, LAYOUT, STATE_LENGTH, STATE_TOO_SHORT};
 

@@ -57,7 +57,7 @@ pub const STATE_TOO_SHORT: u8 = 254;
 pub const ANSWER_TOO_SHORT: u8 = 255;
 
 /// The kinds of calls, by their numbers in a sheet.
-mod kind {
+pub mod kind {
     pub const OPEN: u8 = 0x01;
     pub const WANT: u8 = 0x02;
     pub const RECEIVE: u8 = 0x03;
@@ -183,8 +183,8 @@ impl View {
         View { displacement: 0, extent: 1, blocks: 1, block }
     }
 
-    /// The body of the call that sets it.
-    fn body(&self) -> [u8; 39] {
+    /// The body of the call that sets it, 0B.
+    pub fn body(&self) -> [u8; 39] {
         let mut body = [0; 39];
         body[..4].copy_from_slice(&self.displacement.to_be_bytes());
         body[4..6].copy_from_slice(&self.extent.to_be_bytes());

@@ -1,28 +1,15 @@
 //! The calls that a lane asks home for, as the bytes of an event: one byte of kind, then the body (document 01, "Events").
 
-use gudlemi::{event_at, EventAt, Purpose, View, Whence};
-
-/// The kinds of calls by their numbers.
-pub mod kind {
-    pub const OPEN: u8 = 0x01;
-    pub const WANT: u8 = 0x02;
-    pub const RECEIVE: u8 = 0x03;
-    pub const TAKE: u8 = 0x04;
-    pub const WRITE: u8 = 0x05;
-    pub const READ: u8 = 0x06;
-    pub const PUT: u8 = 0x07;
-    pub const LOOK: u8 = 0x08;
-    pub const FREE: u8 = 0x09;
-    pub const ENTER: u8 = 0x0A;
-    pub const VIEW: u8 = 0x0B;
-    pub const SEEK: u8 = 0x0C;
-}
+use gudlemi::{event_at, kind, EventAt, Purpose, View, Whence};
 
 /// A record of the book.
 pub type Record = [u8; 8];
 
 /// The length of a record in bytes.
 pub const RECORD: usize = 8;
+
+/// The most bytes that a book can have.
+pub const LARGEST_BOOK: u32 = 65_536;
 
 /// A call of a lane, or of all lanes together (`View`, `Seek`).
 #[derive(Clone, Copy, Debug, PartialEq, Eq)]
@@ -55,7 +42,7 @@ impl Call {
             Call::Look(place) => joined(&[&[kind::LOOK, lane], &place.to_be_bytes()]),
             Call::Free => vec![kind::FREE, lane],
             Call::Enter(count) => joined(&[&[kind::ENTER, lane], &count.to_be_bytes()]),
-            Call::View(view) => view_bytes(&view),
+            Call::View(view) => joined(&[&[kind::VIEW], &view.body()]),
             Call::Seek(whence, offset) => {
                 joined(&[&[kind::SEEK, whence as u8], &offset.to_be_bytes()])
             }
@@ -87,17 +74,12 @@ pub fn calls_in(list: &[u8]) -> Option<Vec<&[u8]>> {
     (at == list.len()).then_some(calls)
 }
 
-fn view_bytes(view: &View) -> Vec<u8> {
-    let mut bytes = joined(&[&[kind::VIEW], &view.displacement.to_be_bytes()]);
-    bytes.extend(view.extent.to_be_bytes());
-    bytes.push(view.blocks);
-    for block in &view.block {
-        bytes.extend(block.start.to_be_bytes());
-        bytes.extend(block.length.to_be_bytes());
-    }
-    bytes
-}
-
+/// Parts of different lengths, one after the other.
 fn joined(parts: &[&[u8]]) -> Vec<u8> {
     parts.concat()
+}
+
+/// Bytes as hexadecimal digits.
+pub fn digits(bytes: &[u8]) -> String {
+    bytes.iter().map(|byte| format!("{byte:02x}")).collect()
 }

@@ -1,7 +1,9 @@
 //! The folder of a line: the files that home and its lanes share, and how a file is replaced so that a power cut leaves the old one or the new one.
 
+use crate::call::{Record, RECORD};
 use std::fs::{self, File, TryLockError};
 use std::io::{self, Write};
+use std::os::unix::fs::FileExt;
 use std::path::{Path, PathBuf};
 
 /// The folder of one line and its book.
@@ -69,6 +71,16 @@ impl Folder {
     /// Makes the names in the folder last over a power cut.
     pub fn sync(&self) -> io::Result<()> {
         named(&self.path, File::open(&self.path).and_then(|folder| folder.sync_all()))
+    }
+}
+
+/// The record at a byte of a book's file; none where it ends past the file's end.
+pub fn record_at(book: &File, position: u64) -> io::Result<Option<Record>> {
+    let mut record = [0; RECORD];
+    match book.read_exact_at(&mut record, position) {
+        Ok(()) => Ok(Some(record)),
+        Err(error) if error.kind() == io::ErrorKind::UnexpectedEof => Ok(None),
+        Err(error) => Err(error),
     }
 }
 

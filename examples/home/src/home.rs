@@ -4,14 +4,16 @@
 //! A call is made as soon as it comes, but for those that would come too early and be refused: a receive is kept back until
 //! its lane is woken, so that its answer is the wake; an ordered call, a view and a seek until all lanes have asked for it.
 
-use crate::call::{kind, lane_of};
+use crate::call::lane_of;
 use crate::kept::Kept;
-use crate::message::{Reply, Request, Run};
-use gudlemi::{event_at, Answer, EventAt, Phase};
+use crate::message::{Made, Reply, Request, Run};
+use crate::saved::Last;
+use gudlemi::{event_at, kind, Answer, EventAt, Phase};
 use std::collections::VecDeque;
+use std::io;
 
 pub struct Home<C> {
-    pub kept: Kept,
+    kept: Kept,
     /// What each lane has asked for and was not answered yet. A lane asks for one call at a time.
     asked: Vec<Option<Asked<C>>>,
     /// The lanes whose call is not made yet, the one that asked first in front.
@@ -22,10 +24,15 @@ pub struct Home<C> {
 
 struct Asked<C> {
     request: Request,
-    /// Whoever asked, and whether the call had been made then. A lane that asks again comes by a new connection, and its
-    /// first request may come in after its second: each gets the reply.
-    by: Vec<(C, bool)>,
+    /// Whoever asked. A lane that asks again comes by a new connection, and its first request may come in after its second: each
+    /// gets the reply, but for connections that are long gone.
+    by: VecDeque<C>,
+    /// The call had been made when home went on from a power cut.
+    made_before: bool,
 }
+
+/// How many connections of one lane are answered; of more the first ones are gone.
+const MOST_CONNECTIONS: usize = 8;
 
 impl<C> Home<C> {
     pub fn new(kept: Kept) -> Home<C> {
@@ -34,22 +41,23 @@ impl<C> Home<C> {
     }
 
     /// Takes in a request, which may be any bytes. A call that has the lane's next number is to be made. One with the number
-    /// of its last call was made before, and gets the kept answer. To any other number the reply tells the last.
+    /// of its last call was made before, and gets the kept answer. To all else the reply is that nothing was made.
     pub fn take_in(&mut self, request: Request, by: C) {
         let Request { lane, number, ref call } = request;
-        if let Some(refused) = self.fault(&request) {
-            let reply = Reply { number, made_before: false, answer: refused, runs: Vec::new() };
+        if let Some(refusal) = self.fault(&request) {
+            let number = if lane < self.kept.lanes() { self.kept.last(lane).number } else { 0 };
+            let reply = Reply { made: Made::Not, number, answer: refusal, runs: Vec::new() };
             return self.at_once.push((by, reply));
         }
         let last = self.kept.last(lane).number;
         if number == last && self.kept.is_last_call(lane, call) {
-            if self.is_gathered(lane) {
+            if self.is_withheld(lane, call) {
                 return self.note(request, by, true);
             }
-            return self.at_once.push((by, self.reply(lane, call, true)));
+            return self.at_once.push((by, self.reply(lane, call, Made::Before)));
         }
         if number != last + 1 || call.is_empty() {
-            return self.at_once.push((by, self.reply(lane, &[], false)));
+            return self.at_once.push((by, self.reply(lane, &[], Made::Not)));
         }
         if !self.waiting.contains(&lane) {
             self.waiting.push_back(lane);
@@ -57,13 +65,27 @@ impl<C> Home<C> {
         self.note(request, by, false);
     }
 
-    /// Notes who is to get the reply to a request.
+    /// Notes who is to get the reply to a request. An earlier request of the lane for another call is given up.
     fn note(&mut self, request: Request, by: C, made_before: bool) {
-        let asked = &mut self.asked[usize::from(request.lane)];
-        match asked {
-            Some(same) if same.request == request => same.by.push((by, made_before)),
-            _ => *asked = Some(Asked { request, by: vec![(by, made_before)] }),
+        let lane = usize::from(request.lane);
+        let mut connections = VecDeque::new();
+        match self.asked[lane].take() {
+            Some(same) if same.request == request => connections = same.by,
+            Some(other) => self.give_up(other),
+            None => (),
         }
+        connections.push_back(by);
+        if connections.len() > MOST_CONNECTIONS {
+            connections.pop_front();
+        }
+        self.asked[lane] = Some(Asked { request, by: connections, made_before });
+    }
+
+    /// Tells whoever asked that the call is not made, or of an enter whose reply was withheld that it was.
+    fn give_up(&mut self, Asked { request, by, .. }: Asked<C>) {
+        let is_made = request.number == self.kept.last(request.lane).number;
+        let reply = self.reply(request.lane, &[], if is_made { Made::Now } else { Made::Not });
+        self.at_once.extend(by.into_iter().map(|to| (to, reply.clone())));
     }
 
     /// The refusal of a request that is no call of this lane: 8 where there is no such lane or the call is another's, 2 and 3
@@ -80,9 +102,16 @@ impl<C> Home<C> {
         }
     }
 
-    /// Makes every call whose time has come. A release may wake a lane whose receive is kept back, so it looks anew after
-    /// each call.
-    pub fn make_calls(&mut self) {
+    /// Makes every call whose time has come, saves what they have come to, and then hands out the replies that are due. Where
+    /// the save fails nobody is answered, and this home must end.
+    pub fn answer(&mut self) -> io::Result<Vec<(C, Reply)>> {
+        self.make_calls();
+        self.kept.save()?;
+        Ok(self.replies())
+    }
+
+    /// A release may wake a lane whose receive is kept back, so it looks anew after each call.
+    fn make_calls(&mut self) {
         while let Some(index) = self.waiting.iter().position(|&lane| self.is_due(lane)) {
             let lane = self.waiting[index];
             self.make_call(lane);
@@ -124,50 +153,53 @@ impl<C> Home<C> {
         }
     }
 
-    /// The replies that are due; what they tell of must be saved first. A lane that is gathered is answered when all have
-    /// entered, since its region is not known before.
-    pub fn replies(&mut self) -> Vec<(C, Reply)> {
+    /// The replies that are due.
+    fn replies(&mut self) -> Vec<(C, Reply)> {
         let mut due = std::mem::take(&mut self.at_once);
         for lane in self.lanes() {
-            if self.call_to_make(lane).is_some() || self.is_gathered(lane) {
-                continue;
-            }
-            let Some(Asked { request, by }) = self.asked[usize::from(lane)].take() else {
+            let Some(Asked { request, by, made_before }) = self.take_answered(lane) else {
                 continue;
             };
-            for (to, made_before) in by {
-                due.push((to, self.reply(lane, &request.call, made_before)));
-            }
+            let made = if made_before { Made::Before } else { Made::Now };
+            let reply = self.reply(lane, &request.call, made);
+            due.extend(by.into_iter().map(|to| (to, reply.clone())));
         }
         due
     }
 
-    /// What a lane is told of its last call.
-    fn reply(&self, lane: u8, call: &[u8], made_before: bool) -> Reply {
-        let last = self.kept.last(lane);
-        Reply {
-            number: last.number,
-            made_before,
-            answer: last.answer,
-            runs: self.runs(lane, call, last.answer),
+    /// What a lane has asked for, where the reply to it is due.
+    fn take_answered(&mut self, lane: u8) -> Option<Asked<C>> {
+        let asked = self.asked[usize::from(lane)].as_ref()?;
+        if self.call_to_make(lane).is_some() || self.is_withheld(lane, &asked.request.call) {
+            return None;
         }
+        self.asked[usize::from(lane)].take()
     }
 
-    /// Where the records lie that an answer hands to a lane: those of its region, where it has just got one or asks what home
-    /// has of it; that of the place which it looks at.
+    /// The reply to an enter that was made is withheld until all lanes have entered, since the lane's region is not known before.
+    fn is_withheld(&self, lane: u8, call: &[u8]) -> bool {
+        call[0] == kind::ENTER && self.is_gathered(lane)
+    }
+
+    /// What a lane is told of its last call.
+    fn reply(&self, lane: u8, call: &[u8], made: Made) -> Reply {
+        let Last { number, answer, .. } = self.kept.last(lane);
+        Reply { made, number, answer, runs: self.runs(lane, call, answer) }
+    }
+
+    /// Where the records lie that an answer hands to a lane: those of its region, where it has just got one; that of the place
+    /// which it looks at.
     fn runs(&self, lane: u8, call: &[u8], answer: Answer) -> Vec<Run> {
-        let got_region =
-            matches!(answer, Answer::Region { .. } | Answer::Gathered | Answer::Ordered { .. });
-        match (call, self.phase(lane)) {
-            ([kind::LOOK, _, place @ ..], _) => {
+        match (call, answer, self.phase(lane)) {
+            ([kind::LOOK, _, place @ ..], ..) => {
                 let place = u32::from_be_bytes(place.try_into().expect("a place has four bytes"));
                 vec![Run { position: self.kept.line().position(place), records: 1 }]
             }
-            (_, Phase::Writing { left, next } | Phase::Reading { left, next })
-                if got_region || call.is_empty() =>
-            {
-                self.runs_of(next, left)
-            }
+            (
+                [kind::TAKE | kind::ENTER, ..],
+                Answer::Region { .. } | Answer::Gathered | Answer::Ordered { .. },
+                Phase::Writing { left, next } | Phase::Reading { left, next },
+            ) => self.runs_of(next, left),
             _ => Vec::new(),
         }
     }

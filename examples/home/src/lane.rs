@@ -2,7 +2,8 @@
 
 use crate::call::Call;
 use crate::folder::{named, Folder};
-use crate::message::{Reply, Request};
+use crate::message::{Made, Reply, Request};
+use gudlemi::Answer;
 use std::io::{self, BufReader, ErrorKind, Write};
 use std::os::unix::net::UnixStream;
 use std::thread;
@@ -16,28 +17,28 @@ const PAUSE: Duration = Duration::from_millis(2);
 pub struct Lane {
     folder: Folder,
     lane: u8,
-    /// The number of the last call that was answered.
+    /// The number of the last call that was made.
     number: u64,
     connection: Option<UnixStream>,
-    /// How often a call was asked for again, and how often it had been made before.
+    /// How often a call was asked for again.
     pub asked_again: u64,
-    pub made_before: u64,
 }
 
 impl Lane {
-    /// A lane that has made no call yet.
-    pub fn new(folder: &Folder, lane: u8) -> Lane {
-        let folder = folder.clone();
-        Lane { folder, lane, number: 0, connection: None, asked_again: 0, made_before: 0 }
+    /// A lane whose last call has this number: 0 where it has made none.
+    pub fn new(folder: &Folder, lane: u8, number: u64) -> Lane {
+        Lane { folder: folder.clone(), lane, number, connection: None, asked_again: 0 }
     }
 
-    /// A lane that goes on where an earlier process of it has ended, with what home has of it: the reply to its last call, and
-    /// the rest of its region.
-    pub fn resume(folder: &Folder, lane: u8) -> io::Result<(Lane, Reply)> {
-        let mut resumed = Lane::new(folder, lane);
-        let reply = resumed.ask_until_answered(&Request { lane, number: 0, call: Vec::new() })?;
+    /// A lane that goes on where an earlier process of it has ended: home tells the number of its last call.
+    pub fn resume(folder: &Folder, lane: u8) -> io::Result<Lane> {
+        let mut resumed = Lane::new(folder, lane, 0);
+        let reply = resumed.send(&Request { lane, number: 0, call: Vec::new() })?;
+        if let Answer::Refused(8) = reply.answer {
+            return Err(io::Error::other(format!("home has no lane {lane}")));
+        }
         resumed.number = reply.number;
-        Ok((resumed, reply))
+        Ok(resumed)
     }
 
     pub fn lane(&self) -> u8 {
@@ -45,68 +46,66 @@ impl Lane {
     }
 
     /// Asks for a call, and waits until home answers it. For a receive that is until the lane is woken, for an ordered call,
-    /// a view and a seek until all lanes have asked for it.
+    /// a view and a seek until all lanes have asked for it. An error where home did not make it.
     pub fn ask(&mut self, call: &Call) -> io::Result<Reply> {
-        let number = self.number + 1;
-        let request = Request { lane: self.lane, number, call: call.bytes(self.lane) };
-        let reply = self.ask_until_answered(&request)?;
-        if reply.number != number {
-            let found = reply.number;
-            let fault = format!("home has call {found} as the last one, where {number} is next");
-            return Err(io::Error::other(fault));
+        let request = self.next_request(call);
+        let reply = self.send(&request)?;
+        if reply.made == Made::Not {
+            let (asked, Reply { number, answer, .. }) = (request.number, reply);
+            return Err(io::Error::other(format!(
+                "call {asked} was not made; home has {number} as the last one, and answers {answer}"
+            )));
         }
-        self.number = number;
+        self.number = request.number;
         Ok(reply)
     }
 
-    /// Sends a request without waiting for its reply, and drops the connection, as where a reply is lost on its way.
-    pub fn ask_and_lose(&mut self, call: &Call) -> io::Result<()> {
-        let request =
-            Request { lane: self.lane, number: self.number + 1, call: call.bytes(self.lane) };
-        let sent = self.connected()?.write_all(&request.to_bytes());
-        self.connection = None;
-        self.asked_again += 1;
-        sent.or(Ok(()))
+    /// The request by which a call is asked for next.
+    pub fn next_request(&self, call: &Call) -> Request {
+        Request { lane: self.lane, number: self.number + 1, call: call.bytes(self.lane) }
     }
 
-    /// The same request, by a new connection each time, until there is a reply.
-    fn ask_until_answered(&mut self, request: &Request) -> io::Result<Reply> {
+    /// Sends a request, by a new connection where the last one has ended, until there is a reply.
+    pub fn send(&mut self, request: &Request) -> io::Result<Reply> {
         loop {
-            match self.try_to_ask(request) {
-                Ok(reply) => {
-                    self.made_before += u64::from(reply.made_before);
-                    return Ok(reply);
-                }
+            self.connect()?;
+            match self.try_to_send(request) {
                 Err(error) if error.kind() == ErrorKind::InvalidData => return Err(error),
                 Err(_) => self.connection = None,
+                reply => return reply,
             }
             self.asked_again += 1;
-            self.connected()?;
         }
     }
 
-    fn try_to_ask(&mut self, request: &Request) -> io::Result<Reply> {
-        let connection = self.connected()?;
+    fn try_to_send(&mut self, request: &Request) -> io::Result<Reply> {
+        let connection = self.connection.as_mut().ok_or(ErrorKind::NotConnected)?;
         connection.write_all(&request.to_bytes())?;
         // One reply is under way at most, so that the buffer takes in nothing that belongs to the next.
         Reply::read_from(&mut BufReader::new(connection))
     }
 
-    /// The connection to home, which is made where there is none.
-    fn connected(&mut self) -> io::Result<&mut UnixStream> {
-        if self.connection.is_none() {
-            self.connection = Some(self.connect()?);
-        }
-        self.connection.as_mut().ok_or_else(|| io::Error::other("no connection"))
-    }
-
-    fn connect(&self) -> io::Result<UnixStream> {
+    /// Connects where there is no connection, and waits for home where it is not there.
+    fn connect(&mut self) -> io::Result<()> {
         let start = Instant::now();
-        loop {
+        while self.connection.is_none() {
             match UnixStream::connect(self.folder.socket()) {
-                Err(_) if start.elapsed() < LONGEST_ABSENCE => thread::sleep(PAUSE),
-                other => return named(&self.folder.socket(), other),
+                Ok(connection) => self.connection = Some(connection),
+                Err(error) if is_absent(&error) && start.elapsed() < LONGEST_ABSENCE => {
+                    thread::sleep(PAUSE);
+                }
+                Err(error) => return named(&self.folder.socket(), Err(error)),
             }
         }
+        Ok(())
     }
+}
+
+/// Whether an error says that home is not there now, and may come.
+fn is_absent(error: &io::Error) -> bool {
+    use ErrorKind::{ConnectionRefused, ConnectionReset, Interrupted, NotFound, WouldBlock};
+    matches!(
+        error.kind(),
+        ConnectionRefused | ConnectionReset | Interrupted | NotFound | WouldBlock
+    )
 }

@@ -1,5 +1,5 @@
-//! A line on real processes. `home serve` is the home process of a line, `home lane` a lane of the trial; `home trial` starts both
-//! and kills home meanwhile, `home check` looks at what a trial has left, and `home finish` finishes what a dead lane has left.
+//! A line on real processes. `home serve` is the home process of a line. `home trial` starts it with lanes, which are `home lane`, and
+//! kills it meanwhile; `home check` looks at what a trial has left. `home finish` finishes what dead lanes have left.
 //!
 //! Build, after `rt staticlib embed`, from the repository's top:
 //!     cargo build --release --manifest-path examples/home/Cargo.toml
@@ -25,11 +25,11 @@ use std::process::ExitCode;
 use trial::plan::Sizes;
 use trial::run::Trial;
 
-const USE: &str = "use: home serve FOLDER LANES CAPACITY
+const USE: &str = "use: home serve FOLDER LANES CAPACITY [attended]
      home trial FOLDER [--lanes 64] [--books 12] [--cuts 120] [--operations 16] [--most 4] [--capacity 65536]
                 [--seed 1] [--linebook PROGRAM]
      home check FOLDER [LINEBOOK]
-     home finish FOLDER LANE";
+     home finish FOLDER LANE..";
 
 /// What is wrong in what was read.
 fn invalid(fault: &str) -> io::Error {
@@ -50,7 +50,12 @@ fn run(words: &[&str]) -> io::Result<()> {
         return Err(invalid("libembed.a has another layout"));
     }
     match words {
-        ["serve", folder, lanes, capacity] => {
+        ["serve", folder, lanes, capacity, attended @ ..]
+            if matches!(attended, [] | ["attended"]) =>
+        {
+            if attended == ["attended"] {
+                serve::end_with_input();
+            }
             serve::serve(&Folder::new(*folder), number(lanes)?, number(capacity)?)
         }
         ["lane", folder, lane, sizes @ ..] => {
@@ -59,7 +64,7 @@ fn run(words: &[&str]) -> io::Result<()> {
         ["trial", folder, sizes @ ..] => Trial::from_words(folder, sizes)?.run(),
         ["check", folder] => check(folder, None),
         ["check", folder, linebook] => check(folder, Some(Path::new(linebook))),
-        ["finish", folder, lane] => finish(folder, number(lane)?),
+        ["finish", folder, lanes @ ..] if !lanes.is_empty() => finish(folder, lanes),
         _ => Err(misused(USE)),
     }
 }
@@ -77,10 +82,13 @@ fn check(folder: &str, linebook: Option<&Path>) -> io::Result<()> {
     writeln!(io::stdout(), "{places}")
 }
 
-/// The calls by which a lane was finished.
-fn finish(folder: &str, lane: u8) -> io::Result<()> {
-    for (call, answer) in finish::finish(&Folder::new(folder), lane)? {
-        writeln!(io::stdout(), "{call:?}: {answer}")?;
+/// Finishes all these lanes at once, as one may wait for another, and prints the calls of each.
+fn finish(folder: &str, lanes: &[&str]) -> io::Result<()> {
+    let lanes: Vec<u8> = lanes.iter().map(|lane| number(lane)).collect::<io::Result<_>>()?;
+    for (lane, made) in finish::finish_all(&Folder::new(folder), &lanes) {
+        for (call, answer) in made? {
+            writeln!(io::stdout(), "lane {lane}: {call:?}: {answer}")?;
+        }
     }
     Ok(())
 }

@@ -1,18 +1,19 @@
 //! What goes over a socket: a lane's request, and home's reply. Numbers are big-endian.
 //!
-//! A request: lane 1, number 8, length 1, and as many bytes of a call. A reply: number 8, whether the call had been made
-//! before 1, answer 16, how many runs 4, and of each run position 8, records 4.
+//! A request: lane 1, number 8, length 1, and as many bytes of a call. A reply: whether the call was made 1, number 8,
+//! answer 16, how many runs 4, and of each run position 8, records 4.
 
 use crate::call::RECORD;
+use crate::invalid;
 use gudlemi::{Answer, ANSWER_LENGTH};
-use std::io::{self, ErrorKind, Read, Write};
+use std::io::{self, Read, Write};
 
 /// A call that a lane asks for. Its calls are numbered from 1; a request that is sent again has the same number.
 #[derive(Clone, Debug, PartialEq, Eq)]
 pub struct Request {
     pub lane: u8,
     pub number: u64,
-    /// The bytes of the call. None at all: the lane asks what home has of it.
+    /// The bytes of the call. None at all: the lane asks for the number of its last call.
     pub call: Vec<u8>,
 }
 
@@ -36,14 +37,23 @@ impl Run {
     }
 }
 
+/// Whether the call of a request was made.
+#[derive(Clone, Copy, Debug, PartialEq, Eq)]
+pub enum Made {
+    /// It was not, and is not going to be under this number.
+    Not = 0,
+    Now = 1,
+    /// Before this request came: the lane asked again.
+    Before = 2,
+}
+
 /// Home's reply to a request.
 #[derive(Clone, Debug, PartialEq, Eq)]
 pub struct Reply {
-    /// The number of the lane's last call that was made. Where it is not that of the request, the call was not made.
+    pub made: Made,
+    /// The number of the lane's last call; that of the request, where its call was made.
     pub number: u64,
-    /// The call had been made before this request came: the lane asked again.
-    pub made_before: bool,
-    /// The answer to the call with that number.
+    /// The answer to the lane's last call, or the refusal of bytes that are no call of it.
     pub answer: Answer,
     /// Where the records lie that the answer hands to the lane, in the order of their places.
     pub runs: Vec<Run>,
@@ -71,8 +81,8 @@ impl Request {
 
 impl Reply {
     pub fn to_bytes(&self) -> Vec<u8> {
-        let mut bytes = self.number.to_be_bytes().to_vec();
-        bytes.push(self.made_before.into());
+        let mut bytes = vec![self.made as u8];
+        bytes.extend(self.number.to_be_bytes());
         bytes.extend(self.answer.to_bytes());
         bytes.extend((self.runs.len() as u32).to_be_bytes());
         for run in &self.runs {
@@ -87,17 +97,22 @@ impl Reply {
     }
 
     pub fn read_from(source: &mut impl Read) -> io::Result<Reply> {
+        let made = match bytes_from(source)? {
+            [0] => Made::Not,
+            [1] => Made::Now,
+            [2] => Made::Before,
+            _ => return Err(invalid("no reply")),
+        };
         let number = u64::from_be_bytes(bytes_from(source)?);
-        let [made_before] = bytes_from(source)?;
         let answer = Answer::from_bytes(&bytes_from::<ANSWER_LENGTH>(source)?);
-        let answer = answer.ok_or_else(|| io::Error::new(ErrorKind::InvalidData, "no answer"))?;
+        let answer = answer.ok_or_else(|| invalid("no answer"))?;
         let count = u32::from_be_bytes(bytes_from(source)?);
         let mut runs = Vec::new();
         for _ in 0..count {
             let position = u64::from_be_bytes(bytes_from(source)?);
             runs.push(Run { position, records: u32::from_be_bytes(bytes_from(source)?) });
         }
-        Ok(Reply { number, made_before: made_before != 0, answer, runs })
+        Ok(Reply { made, number, answer, runs })
     }
 }
 

@@ -3,8 +3,10 @@
 //! Its bytes, big-endian: the mark 8, length of the list 8, state 1,216; of each lane the number of its last call 8, where
 //! that call stands in the list 8, its answer 16; a checksum 8. The library's own test that a line is sound is no checksum.
 
+use crate::folder::{named, Folder};
 use crate::invalid;
 use gudlemi::{Answer, Line, ANSWER_LENGTH, STATE_LENGTH};
+use std::fs;
 use std::io;
 
 const MARK: &[u8; 8] = b"GUDLHOME";
@@ -40,6 +42,17 @@ impl Last {
 }
 
 impl Saved {
+    /// What is saved in a folder; an error of the kind `NotFound` where nothing is.
+    pub fn read(folder: &Folder) -> io::Result<Saved> {
+        let name = folder.saved();
+        named(&name, fs::read(&name).and_then(|bytes| Saved::from_bytes(&bytes)))
+    }
+
+    /// Replaces what is saved, so that it lasts over a power cut.
+    pub fn write(&self, folder: &Folder) -> io::Result<()> {
+        folder.replace(&folder.saved(), &self.to_bytes())
+    }
+
     pub fn to_bytes(&self) -> Vec<u8> {
         let mut bytes = MARK.to_vec();
         bytes.extend(self.list_length.to_be_bytes());

@@ -5,7 +5,7 @@
 use crate::folder::{named, Folder};
 use crate::home::Home;
 use crate::kept::Kept;
-use crate::message::Request;
+use crate::message::{Reply, Request};
 use std::fs;
 use std::io::{self, BufReader};
 use std::os::unix::net::{UnixListener, UnixStream};
@@ -16,6 +16,9 @@ use std::time::Duration;
 
 /// How long home tries to write a reply to a lane that does not read. The lane asks again.
 const LONGEST_WRITE: Duration = Duration::from_secs(1);
+
+/// The pause after a connection that failed, as where too many are open.
+const AFTER_FAILURE: Duration = Duration::from_millis(20);
 
 /// A request, with the connection that it came by.
 type Incoming = (Request, Arc<UnixStream>);
@@ -29,19 +32,26 @@ pub fn serve(folder: &Folder, lanes: u8, capacity: u32) -> io::Result<()> {
     thread::spawn(move || accept(&listener, &sender));
     // Calls that came meanwhile are saved together with the first one.
     while let Ok(first) = inbox.recv() {
-        for (request, by) in std::iter::once(first).chain(inbox.try_iter()) {
-            home.take_in(request, by);
-        }
-        home.make_calls();
-        home.kept.save()?;
-        for (lane, reply) in home.replies() {
-            // A lane that cannot be written to has gone; it comes back and asks again.
-            if reply.send(&mut lane.as_ref()).is_err() {
-                let _ = lane.shutdown(std::net::Shutdown::Both);
-            }
-        }
+        let together = std::iter::once(first).chain(inbox.try_iter());
+        together.for_each(|(request, by)| home.take_in(request, by));
+        home.answer()?.into_iter().for_each(|(lane, reply)| send(&lane, &reply));
     }
     Err(io::Error::other("no lane can be accepted any more"))
+}
+
+/// Sends a reply. A lane that cannot be written to has gone; it comes back and asks again.
+fn send(mut lane: &UnixStream, reply: &Reply) {
+    if reply.send(&mut lane).is_err() {
+        let _ = lane.shutdown(std::net::Shutdown::Both);
+    }
+}
+
+/// Ends this process when its standard input does: so does a home whose starter has ended.
+pub fn end_with_input() {
+    thread::spawn(|| {
+        let _ = io::copy(&mut io::stdin(), &mut io::sink());
+        std::process::exit(0);
+    });
 }
 
 /// The socket, in place of the one that an earlier home has left.
@@ -58,9 +68,21 @@ fn accept(listener: &UnixListener, sender: &Sender<Incoming>) {
     for stream in listener.incoming() {
         let sender = sender.clone();
         match stream {
-            Ok(stream) => drop(thread::spawn(move || read_requests(stream, &sender))),
-            Err(error) => eprintln!("home: a connection failed: {error}"),
+            Ok(stream) => start_reading(stream, sender),
+            Err(error) => {
+                eprintln!("home: a connection failed: {error}");
+                thread::sleep(AFTER_FAILURE);
+            }
         }
+    }
+}
+
+/// Starts the thread of a connection; without one the connection ends, and the lane comes again.
+fn start_reading(stream: UnixStream, sender: Sender<Incoming>) {
+    let reader = thread::Builder::new().spawn(move || read_requests(stream, &sender));
+    if let Err(error) = reader {
+        eprintln!("home: no thread for a connection: {error}");
+        thread::sleep(AFTER_FAILURE);
     }
 }
 

@@ -4,7 +4,7 @@ use super::{fault, Temporary};
 use crate::call::Call;
 use crate::kept::Kept;
 use crate::saved::Saved;
-use gudlemi::{Answer, Phase, Purpose};
+use gudlemi::{Answer, Phase, Purpose, View};
 use std::fs;
 
 const WANT: Call = Call::Want(Purpose::SharedWrite);
@@ -85,7 +85,7 @@ fn a_start_that_was_cut_off_is_made_again() {
     for length in 0..=list.len() {
         fs::remove_file(folder.saved()).unwrap();
         fs::write(folder.calls(), &list[..length]).unwrap();
-        fs::write(folder.book(), [7; 3]).unwrap();
+        fs::write(folder.book(), [0; 3]).unwrap();
         drop(folder.kept().unwrap());
         assert_eq!(fs::read(folder.calls()).unwrap(), list);
         assert_eq!(fs::read(folder.book()).unwrap(), [0; 64]);
@@ -108,6 +108,11 @@ fn a_folder_that_is_not_as_it_was_left() {
     assert!(fault(folder.kept()).ends_with("saved: not a saved line"));
     fs::remove_file(folder.saved()).unwrap();
     assert_eq!(fault(folder.kept()), "a list of calls with nothing saved");
+    fs::remove_file(folder.calls()).unwrap();
+    fs::write(folder.book(), [7; 64]).unwrap();
+    assert_eq!(fault(folder.kept()), "a book with records and nothing saved");
+    fs::write(folder.book(), [0; 64]).unwrap();
+    fs::write(folder.calls(), &list).unwrap();
     fs::write(folder.saved(), &saved).unwrap();
     assert_eq!(folder.kept().unwrap().last(0).number, 1);
     assert_eq!(
@@ -143,7 +148,7 @@ fn a_record_that_was_told_must_be_in_the_book() {
         make(&mut kept, call);
     }
     kept.save().unwrap();
-    assert_eq!(fault(folder.kept()), "the book has lost the record at byte 0");
+    assert_eq!(fault(folder.kept()), "byte 0 of the book is not as it was told");
     // The second one is not told yet: it may be there or not.
     let mut book = [0; 64];
     book[..8].copy_from_slice(&record);
@@ -164,12 +169,32 @@ fn a_save_that_fails_loses_nothing() {
     make(&mut kept, WANT);
     fs::create_dir(folder.saved().with_extension("new")).unwrap();
     assert!(fault(kept.save()).contains("saved.new: Is a directory"));
+    assert!(fault(folder.kept()).contains("saved.new: Is a directory"));
+    fs::remove_dir(folder.saved().with_extension("new")).unwrap();
     let mut kept = folder.kept().unwrap();
     assert_eq!((kept.last(0).number, kept.line().lane(0)), (0, Some(Phase::Idle)));
-    fs::remove_dir(folder.saved().with_extension("new")).unwrap();
     make(&mut kept, WANT);
     kept.save().unwrap();
     assert_eq!(folder.kept().unwrap().last(0).number, 1);
+}
+
+/// The view starts at byte 4, so that records lie across multiples of 8.
+#[test]
+fn a_region_at_odd_bytes_may_be_written_already() {
+    let folder = Temporary::new();
+    let mut kept = folder.kept().unwrap();
+    let view = Call::View(View::new(4, 1, &[(0, 1)]).unwrap());
+    kept.make_for_all(&[1, 1, 1], &view.bytes(0));
+    make(&mut kept, WANT);
+    make(&mut kept, Call::Take(2));
+    kept.save().unwrap();
+    let mut book = [0; 64];
+    book[4..20].copy_from_slice(b"record 0record 1");
+    fs::write(folder.book(), book).unwrap();
+    assert!(folder.kept().is_ok());
+    book[20] = 1;
+    fs::write(folder.book(), book).unwrap();
+    assert_eq!(fault(folder.kept()), "byte 20 of the book is not as it was told");
 }
 
 #[test]

@@ -1,7 +1,7 @@
 //! Requests and replies as bytes, and back.
 
 use super::fault;
-use crate::message::{Reply, Request, Run};
+use crate::message::{Made, Reply, Request, Run};
 use gudlemi::Answer;
 
 #[test]
@@ -31,7 +31,7 @@ fn a_request_that_is_cut_off_is_none() {
 fn a_reply_is_read_back() {
     let runs = vec![Run { position: 1 << 40, records: 2 }, Run { position: 24, records: 1 }];
     let answer = Answer::Region { start: 5, count: 3, wakes: Some(0) };
-    let reply = Reply { number: 7, made_before: true, answer, runs };
+    let reply = Reply { made: Made::Before, number: 7, answer, runs };
     let bytes = reply.to_bytes();
     assert_eq!(Reply::read_from(&mut bytes.as_slice()).unwrap(), reply);
     for length in 0..bytes.len() {
@@ -41,10 +41,12 @@ fn a_reply_is_read_back() {
 
 #[test]
 fn a_reply_with_no_answer_is_none() {
-    let reply = Reply { number: 7, made_before: false, answer: Answer::Waits, runs: Vec::new() };
+    let reply = Reply { made: Made::Now, number: 7, answer: Answer::Waits, runs: Vec::new() };
     let mut bytes = reply.to_bytes();
     bytes[9] = 13;
     assert_eq!(fault(Reply::read_from(&mut bytes.as_slice())), "no answer");
+    bytes[0] = 3;
+    assert_eq!(fault(Reply::read_from(&mut bytes.as_slice())), "no reply");
 }
 
 #[test]

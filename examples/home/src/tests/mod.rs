@@ -4,6 +4,7 @@ mod home;
 mod kept;
 mod lanes;
 mod message;
+mod plan;
 mod saved;
 
 use crate::folder::Folder;

@@ -2,14 +2,14 @@
 //!
 //! 1. Each lane was answered what `linebook` answers, call by call: none of its calls was made twice or is missing.
 //! 2. The places are handed out in order, each once, and each one that is to be written is written once, by its lane.
-//! 3. The book is, byte for byte, the one that the list gives: by looks through `linebook` at every record below the size,
-//!    and by the library's run of the list at every byte.
+//! 3. The book is, byte for byte, the one that the list gives: by looks through `linebook` at the records up to the size, and by
+//!    the library's run of the list at every byte.
 
 use super::places::Places;
-use crate::call::{calls_in, kind, lane_of, Call, RECORD};
+use crate::call::{calls_in, digits, lane_of, Call, RECORD};
 use crate::folder::{named, Folder};
 use crate::invalid;
-use gudlemi::{run_reported, text_bound, Purpose, Report, View, LONGEST_SHEET};
+use gudlemi::{kind, run_reported, text_bound, Purpose, Report, View, LONGEST_SHEET};
 use std::fs;
 use std::io::{self, Write};
 use std::path::Path;
@@ -41,10 +41,10 @@ pub fn check(folder: &Folder, linebook: Option<&Path>, report: &mut Report) -> i
     };
     let mut made = made_calls(&told, &printed)?;
     let looked = made.split_off(listed(&sheet)?.len());
-    hold_book(&file, size, &looked)?;
+    hold_looks(&file, size, &looked)?;
     hold_lanes(folder, &made)?;
     let places = Places::of(&made)?;
-    places.hold_book(&file)?;
+    places.hold_records(&file)?;
     Ok(places)
 }
 
@@ -84,11 +84,11 @@ fn end_of(text: &str) -> io::Result<usize> {
     }
 }
 
-/// The calls by which every record below a size is told: the plain view, the whole book, a look at each place.
+/// The calls by which every record is told that ends at or below a size: the plain view, the whole book, a look at each place.
 fn looks(size: usize) -> Vec<u8> {
     let mut calls = Call::View(View::PLAIN).bytes(0);
     calls.extend(Call::Want(Purpose::WholeBook).bytes(0));
-    for place in 0..size.div_ceil(RECORD) {
+    for place in 0..size / RECORD {
         calls.extend(Call::Look(place as u32).bytes(0));
     }
     calls
@@ -114,13 +114,13 @@ fn made_calls(sheet: &[u8], text: &str) -> io::Result<Vec<Made>> {
 }
 
 /// Holds the file to what was looked at: the view and the want, and then a record for each place.
-fn hold_book(file: &[u8], size: usize, looked: &[Made]) -> io::Result<()> {
+fn hold_looks(file: &[u8], size: usize, looked: &[Made]) -> io::Result<()> {
     let records = looked.get(2..).unwrap_or_default();
-    if records.len() != size.div_ceil(RECORD) {
+    if records.len() != size / RECORD {
         return Err(invalid("not a look for each record"));
     }
     for (record, look) in file.chunks(RECORD).zip(records) {
-        let digits: String = record.iter().map(|byte| format!("{byte:02x}")).collect();
+        let digits = digits(record);
         if look.answer != format!("record {digits}") {
             return Err(invalid(&format!(
                 "the book has {digits} where a look answers {}",
@@ -170,7 +170,6 @@ fn hold_lane(folder: &Folder, lane: u8, mut list: impl Iterator<Item = String>) 
 impl Made {
     /// As a lane notes it: the bytes of the call in hexadecimal digits, and the answer.
     fn line(&self) -> String {
-        let digits: String = self.call.iter().map(|byte| format!("{byte:02x}")).collect();
-        format!("{digits} {}", self.answer)
+        format!("{} {}", digits(&self.call), self.answer)
     }
 }

@@ -121,7 +121,9 @@ impl Drop for Processes<'_> {
 
 fn start_home(folder: &Folder, sizes: Sizes) -> io::Result<Child> {
     let numbers = [sizes.lanes.to_string(), sizes.capacity.to_string()];
-    Command::new(env::current_exe()?).arg("serve").arg(folder.path()).args(numbers).spawn()
+    let mut command = Command::new(env::current_exe()?);
+    command.arg("serve").arg(folder.path()).args(numbers).arg("attended");
+    command.stdin(Stdio::piped()).spawn()
 }
 
 fn start_lane(folder: &Folder, sizes: Sizes, lane: u8) -> io::Result<Child> {

@@ -2,9 +2,8 @@
 //! read by the lane that has it.
 
 use super::check::Made;
-use crate::call::{kind, RECORD};
 use crate::invalid;
-use gudlemi::Purpose;
+use gudlemi::{kind, Purpose, Whence};
 use std::collections::{BTreeMap, VecDeque};
 use std::fmt;
 use std::io;
@@ -67,7 +66,7 @@ impl Places {
     }
 
     /// Looks that each record in the file is of the lane that its place was handed to: its first byte is that lane + 1.
-    pub fn hold_book(&self, file: &[u8]) -> io::Result<()> {
+    pub fn hold_records(&self, file: &[u8]) -> io::Result<()> {
         for (&position, &lane) in &self.written {
             if file.get(position as usize) != Some(&(lane + 1)) {
                 return Err(invalid(&format!(
@@ -154,9 +153,6 @@ impl Places {
         if self.lanes[by].to_write.pop_front().is_none() {
             return Err(format!("lane {by} writes, and has no place"));
         }
-        if position % RECORD as u64 != 0 {
-            return Err(format!("a record at byte {position}"));
-        }
         match self.written.insert(position, by as u8) {
             Some(earlier) => Err(format!("lanes {earlier} and {by} write at byte {position}")),
             None => Ok(()),
@@ -174,7 +170,7 @@ impl Places {
 
     fn seek(&mut self, whence: u8, pointer: u64) {
         (self.pointer, self.read) = (pointer, 0);
-        if whence == gudlemi::Whence::End as u8 {
+        if whence == Whence::End as u8 {
             self.end = pointer;
         }
     }

@@ -1,6 +1,7 @@
 //! What each lane does in a trial, made up from a seed, and how long the list of calls can get by it.
 
 use super::random::Random;
+use crate::call::{LARGEST_BOOK, RECORD};
 use crate::{misused, number};
 use gudlemi::{View, LONGEST_SHEET};
 use std::io;
@@ -69,7 +70,7 @@ impl Sizes {
     }
 
     /// The made-up numbers of a lane in this book.
-    pub fn random(&self, lane: u8) -> Random {
+    fn random(&self, lane: u8) -> Random {
         Random::new(self.seed, &[self.book.into(), lane.into()])
     }
 
@@ -92,9 +93,15 @@ impl Sizes {
         }
     }
 
-    /// Every second book has a view with gaps, which all lanes set together: of five records the second, third and fifth.
+    /// Of three books one has the plain view, and two a view with gaps that all lanes set together: of five records the second,
+    /// third and fifth, from byte 16 on, or from byte 4 on, as in document 01's edge.
     pub fn view(&self) -> Option<View> {
-        (self.book % 2 == 0).then(|| View::new(16, 5, &[(1, 2), (4, 1)]).expect("two blocks"))
+        let displacement = match self.book % 3 {
+            1 => return None,
+            2 => 16,
+            _ => 4,
+        };
+        View::new(displacement, 5, &[(1, 2), (4, 1)])
     }
 
     /// A bound of the bytes of all calls from below, unless the book gets full: no receive and no put is counted, and of the
@@ -109,13 +116,9 @@ impl Sizes {
         let written: usize = self.operations_of_all().map(|operation| operation.most_bytes()).sum();
         let takes = places.div_ceil(READ_AT_ONCE.into()) + usize::from(self.lanes);
         let read = READ * places + TURN * takes + CORRECT * takes.div_ceil(CORRECTS_EVERY);
-        let shown = self.view().map_or(places, |_| (places + 3) * 5 / 3);
-        OPEN + 2 * VIEW
-            + 2 * SEEK
-            + written
-            + read
-            + WANT
-            + LOOK * shown.min(self.capacity as usize / 8)
+        let records = self.view().map_or(places, |_| (places + 3) * 5 / 3);
+        let looks = WANT + LOOK * records.min(self.capacity as usize / RECORD);
+        OPEN + VIEW + 2 * SEEK + written + read + VIEW + looks
     }
 
     fn operations_of_all(&self) -> impl Iterator<Item = Operation> + '_ {
@@ -127,8 +130,11 @@ impl Sizes {
         if !(1..=128).contains(&self.lanes) {
             return Some("the lanes are not 1 to 128".to_string());
         }
-        if !(64..=65_536).contains(&self.capacity) {
-            return Some("the capacity is not 64 to 65536".to_string());
+        if !(64..=LARGEST_BOOK).contains(&self.capacity) {
+            return Some(format!("the capacity is not 64 to {LARGEST_BOOK}"));
+        }
+        if self.operations == 0 {
+            return Some("there are no operations".to_string());
         }
         let most = self.most_bytes();
         (most > LONGEST_SHEET).then(|| {
@@ -137,19 +143,20 @@ impl Sizes {
     }
 }
 
-// The bytes of the calls, and of all that a turn makes: with a receive, and with a put for each look.
-const OPEN: usize = 6;
-const WANT: usize = 3;
-const RECEIVE: usize = 2;
-const TAKE: usize = 4;
-const WRITE: usize = 10;
-const READ: usize = 2;
-const PUT: usize = 14;
-const LOOK: usize = 6;
-const FREE: usize = 2;
-const ENTER: usize = 4;
-const VIEW: usize = 40;
-const SEEK: usize = 6;
+// The bytes of the calls (`tests/plan.rs` holds them to `Call::bytes`), and of all that a turn makes: with a receive, and with a
+// put for each look.
+pub const OPEN: usize = 6;
+pub const WANT: usize = 3;
+pub const RECEIVE: usize = 2;
+pub const TAKE: usize = 4;
+pub const WRITE: usize = 10;
+pub const READ: usize = 2;
+pub const PUT: usize = 14;
+pub const LOOK: usize = 6;
+pub const FREE: usize = 2;
+pub const ENTER: usize = 4;
+pub const VIEW: usize = 40;
+pub const SEEK: usize = 6;
 const TURN: usize = WANT + RECEIVE + TAKE;
 const CORRECT: usize = WANT + RECEIVE + LOOKS * (LOOK + PUT) + FREE;
 

@@ -68,6 +68,9 @@ impl Trial {
 
     /// Runs all books, prints a line for each, and then what they come to.
     pub fn run(&self) -> io::Result<()> {
+        if self.books == 0 {
+            return Err(misused("there are no books"));
+        }
         for book in 1..=self.books {
             if let Some(fault) = (Sizes { book, ..self.sizes }).fault() {
                 return Err(misused(&fault));

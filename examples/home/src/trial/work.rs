@@ -3,15 +3,16 @@
 
 use super::plan::{Operation, Sizes, CORRECTS_EVERY, LOOKS, READ_AT_ONCE};
 use super::random::Random;
-use crate::call::{Call, Record, RECORD};
-use crate::folder::{named, Folder};
+use crate::call::{digits, Call, Record, RECORD};
+use crate::folder::{named, record_at, Folder};
 use crate::lane::Lane;
-use crate::message::{Reply, Run};
+use crate::message::{Made, Reply, Request, Run};
 use gudlemi::{Answer, Purpose, Whence};
 use std::fmt::Write as _;
 use std::fs::{self, File};
-use std::io;
+use std::io::{self, Write as _};
 use std::os::unix::fs::FileExt;
+use std::os::unix::net::UnixStream;
 use std::time::{Duration, Instant};
 
 /// One reply in so many is lost on its way, beside those that a power cut loses.
@@ -23,7 +24,8 @@ const CORRECTIONS: usize = 1;
 /// The refusal of a take or an enter whose records do not fit: the book is full.
 const DOES_NOT_FIT: Answer = Answer::Refused(16);
 
-pub struct Worker {
+struct Worker {
+    folder: Folder,
     sizes: Sizes,
     lane: Lane,
     book: File,
@@ -32,7 +34,7 @@ pub struct Worker {
     written: u32,
     /// The calls with their answers, as text.
     told: String,
-    waits: Waits,
+    done: Done,
 }
 
 /// How long a lane waited for its turn, by the clock.
@@ -43,7 +45,8 @@ pub struct Waits {
     pub longest: Duration,
 }
 
-/// What a lane tells at its end.
+/// What a lane tells at its end: its waits, how often it asked for a call again, and how often that had been made before.
+#[derive(Clone, Copy, Debug, Default)]
 pub struct Done {
     pub waits: Waits,
     pub asked_again: u64,
@@ -53,25 +56,26 @@ pub struct Done {
 /// Does all work of a lane, and writes its calls and answers to its file.
 pub fn work(folder: &Folder, lane: u8, sizes: Sizes) -> io::Result<Done> {
     // Home makes the book's file before it answers anybody.
-    let (lane, _) = Lane::resume(folder, lane)?;
+    let lane = Lane::resume(folder, lane)?;
     let book = File::options().read(true).write(true).open(folder.book());
     let book = named(&folder.book(), book)?;
     let random = Random::new(sizes.seed, &[sizes.book.into(), lane.lane().into(), 1]);
     let mut worker = Worker {
+        folder: folder.clone(),
         sizes,
         lane,
         book,
         random,
         written: 0,
         told: String::new(),
-        waits: Waits::default(),
+        done: Done::default(),
     };
     worker.write_book()?;
     worker.read_book()?;
-    let Worker { waits, lane, told, .. } = worker;
+    let Worker { lane, told, done, .. } = worker;
     let name = folder.told_to(lane.lane());
     named(&name, fs::write(&name, told))?;
-    Ok(Done { waits, asked_again: lane.asked_again, made_before: lane.made_before })
+    Ok(Done { asked_again: done.asked_again + lane.asked_again, ..done })
 }
 
 impl Worker {
@@ -124,7 +128,7 @@ impl Worker {
         let mut answer = self.ask(&Call::Want(purpose))?.answer;
         if answer == Answer::Waits {
             answer = self.ask(&Call::Receive)?.answer;
-            self.waits.add(start.elapsed());
+            self.done.waits.add(start.elapsed());
         }
         match answer {
             Answer::Holds { pointer } => Ok(pointer),
@@ -185,7 +189,7 @@ impl Worker {
     /// as the lane that has the whole book can correct a record in between.
     fn read_region(&mut self, runs: &[Run]) -> io::Result<()> {
         for position in Run::positions(runs) {
-            let read = self.record_at(position)?;
+            let read = record_at(&self.book, position)?;
             match self.ask(&Call::Read)?.answer {
                 Answer::None => (),
                 Answer::Record(told) if read.map(uncorrected) == Some(uncorrected(told)) => (),
@@ -215,7 +219,7 @@ impl Worker {
     }
 
     fn correct_record(&mut self, place: u32, position: u64, mut record: Record) -> io::Result<()> {
-        if self.record_at(position)? != Some(record) {
+        if record_at(&self.book, position)? != Some(record) {
             return Err(io::Error::other(format!("another record in the book at byte {position}")));
         }
         record[CORRECTIONS] = record[CORRECTIONS].wrapping_add(1);
@@ -224,16 +228,6 @@ impl Worker {
         match self.ask(&Call::Put(place, record))?.answer {
             Answer::Wrote { position: told } if told == position => Ok(()),
             other => Err(unexpected("put", other)),
-        }
-    }
-
-    /// The record at a byte of the file; none where it ends past the file's end.
-    fn record_at(&self, position: u64) -> io::Result<Option<Record>> {
-        let mut record = [0; RECORD];
-        match self.book.read_exact_at(&mut record, position) {
-            Ok(()) => Ok(Some(record)),
-            Err(error) if error.kind() == io::ErrorKind::UnexpectedEof => Ok(None),
-            Err(error) => Err(error),
         }
     }
 
@@ -248,14 +242,20 @@ impl Worker {
     /// Asks for a call and notes its answer. Now and then a reply is lost on its way, and the lane asks again.
     fn ask(&mut self, call: &Call) -> io::Result<Reply> {
         if self.random.one_in(LOST_EVERY) {
-            self.lane.ask_and_lose(call)?;
+            self.lose_reply(&self.lane.next_request(call));
         }
         let reply = self.lane.ask(call)?;
-        for byte in call.bytes(self.lane.lane()) {
-            let _ = write!(self.told, "{byte:02x}");
-        }
-        let _ = writeln!(self.told, " {}", reply.answer);
+        self.done.made_before += u64::from(reply.made == Made::Before);
+        let call = digits(&call.bytes(self.lane.lane()));
+        let _ = writeln!(self.told, "{call} {}", reply.answer);
         Ok(reply)
+    }
+
+    /// Sends a request by a connection of its own, which ends before the reply comes. Where home is not there it is lost, too.
+    fn lose_reply(&mut self, request: &Request) {
+        self.done.asked_again += 1;
+        let connection = UnixStream::connect(self.folder.socket());
+        let _ = connection.and_then(|mut home| home.write_all(&request.to_bytes()));
     }
 }
 
