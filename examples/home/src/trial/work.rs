@@ -18,6 +18,9 @@ use std::time::{Duration, Instant};
 /// One reply in so many is lost on its way, beside those that a power cut loses.
 const LOST_EVERY: u64 = 100;
 
+/// How many of the places before the pointer are looked at more often: lanes are about to write them.
+const LAST_PLACES: u32 = 8;
+
 /// Where a record has the number of its corrections.
 const CORRECTIONS: usize = 1;
 
@@ -199,22 +202,29 @@ impl Worker {
         Ok(())
     }
 
-    /// With the whole book: looks at records below the pointer, and puts those back that were told, with a correction more. A
-    /// place that a lane has yet to write is left alone.
+    /// With the whole book: looks at records below the pointer, one of the last and others anywhere, and puts those back that were
+    /// told, with a correction more. A place that a lane has yet to write, as the last ones often are, is left alone.
     fn correct(&mut self) -> io::Result<()> {
         let pointer = self.turn(Purpose::WholeBook)?;
-        for _ in 0..LOOKS {
-            let place = self.random.below(u64::from(pointer).max(1)) as u32;
-            let looked = self.ask(&Call::Look(place))?;
-            if let (Answer::Record(record), [run]) = (looked.answer, looked.runs.as_slice()) {
-                if record != [0; RECORD] {
-                    self.correct_record(place, run.position, record)?;
-                }
-            }
+        for look in 0..LOOKS {
+            let reach = if look == 0 { pointer.min(LAST_PLACES) } else { pointer };
+            let place =
+                pointer.saturating_sub(1 + self.random.below(u64::from(reach).max(1)) as u32);
+            self.correct_place(place)?;
         }
         match self.ask(&Call::Free)?.answer {
             Answer::Freed { .. } => Ok(()),
             other => Err(unexpected("free", other)),
+        }
+    }
+
+    fn correct_place(&mut self, place: u32) -> io::Result<()> {
+        let looked = self.ask(&Call::Look(place))?;
+        match (looked.answer, looked.runs.as_slice()) {
+            (Answer::Record(record), [run]) if record != [0; RECORD] => {
+                self.correct_record(place, run.position, record)
+            }
+            _ => Ok(()),
         }
     }
 
