@@ -45,8 +45,9 @@ pub fn drive(folder: &Folder, sizes: Sizes, cuts: u64) -> io::Result<Driven> {
         processes.lanes.push(start_lane(folder, sizes, lane)?);
     }
     let mut random = Random::new(sizes.seed, &[sizes.book.into(), u64::MAX]);
-    let mut moments: Vec<u64> =
-        (0..cuts).map(|_| random.below(sizes.fewest_bytes() as u64)).collect();
+    // Not at the very end, where the lanes could be done before the driver looks.
+    let latest = sizes.fewest_bytes() as u64 * 9 / 10;
+    let mut moments: Vec<u64> = (0..cuts).map(|_| random.below(latest)).collect();
     moments.sort_unstable();
     let made = processes.wait(&moments, &mut random)?;
     let time = start.elapsed();
