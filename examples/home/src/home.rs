@@ -49,6 +49,9 @@ impl<C> Home<C> {
             let reply = Reply { made: Made::Not, number, answer: refusal, runs: Vec::new() };
             return self.at_once.push((by, reply));
         }
+        if call.is_empty() {
+            return self.at_once.push((by, self.reply(lane, &[], Made::Not)));
+        }
         let last = self.kept.last(lane).number;
         if number == last && self.kept.is_last_call(lane, call) {
             if self.is_withheld(lane, call) {
@@ -56,7 +59,7 @@ impl<C> Home<C> {
             }
             return self.at_once.push((by, self.reply(lane, call, Made::Before)));
         }
-        if number != last + 1 || call.is_empty() {
+        if number != last + 1 {
             return self.at_once.push((by, self.reply(lane, &[], Made::Not)));
         }
         if !self.waiting.contains(&lane) {

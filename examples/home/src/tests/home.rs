@@ -156,6 +156,19 @@ fn a_number_is_for_one_call() {
     assert_eq!(served.list(), list);
 }
 
+/// A lane asks for the number of its last call, under any number: also that of the last one.
+#[test]
+fn a_request_with_no_call() {
+    let mut served = Served::new();
+    let _ = served.ask(0, WANT);
+    let list = served.list();
+    for number in [0, 1, 2, u64::MAX] {
+        let reply = served.send(Request { lane: 0, number, call: Vec::new() }, 7);
+        assert_eq!((reply[0].1.made, reply[0].1.number), (Made::Not, 1));
+    }
+    assert_eq!(served.list(), list);
+}
+
 #[test]
 fn bytes_that_are_no_call_of_the_lane() {
     let mut served = Served::new();
