@@ -17,7 +17,7 @@ use waitlist::Wakes;
 pub const ANSWER_LENGTH: usize = 16;
 
 // The numbers of an answer: its word's, document 01's own, whether a lane is woken and which, and two values.
-#[derive(Drop)]
+#[derive(Clone, Copy)]
 pub struct Numbers {
     pub word: u8,
     pub number: u8,

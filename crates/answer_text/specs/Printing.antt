@@ -1,4 +1,4 @@
--- An answer's line in a lent buffer: `answer_line`, where the longest line has room. That no line is longer: answer_text/Lengths: line-short.
+-- An answer's line in a lent buffer: `answer_line`, where the longest line has room. That no line is longer: answer_text/Lengths: line_short.
 use Rattle.std.specs.Prelude.{ℕ, cond, List, ltb, length}
 use Rattle.std.proofs.lemmas.List.Edits.{sets}
 use Rattle.steps.specs.declared.Answer.{Answer}

@@ -1,4 +1,6 @@
 // The lines that `linebook` prints, stored in a lent buffer.
+#![tactic(auto)]
+
 ghost use Rattle.std.specs.Prelude.{◌≡◌, ◌+◌, ◌≤◌, length};
 ghost use Rattle.steps.specs.declared.Answer.{Answer};
 ghost use Rattle.printout.specs.Print.{answer_line, answer_words, end_line_of, words};
@@ -16,7 +18,7 @@ use word_text::{
 pub const MOST_LINE: usize = 56;
 
 // The length of the text that was stored, or that the buffer may be too short for it.
-#[derive(Drop)]
+#[derive(Clone, Copy)]
 pub enum Printed {
     Length(usize),
     TooShort,

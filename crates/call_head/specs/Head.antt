@@ -1,4 +1,4 @@
--- The kind and the lane of a call at an index of a sheet. Tied to `read_at` by call_head/Heads: headed-read, by which the event there is that of the kind, the lane and the fields past it.
+-- The kind and the lane of a call at an index of a sheet. Tied to `read_at` by call_head/Heads: headed_read, by which the event there is that of the kind, the lane and the fields past it.
 use Rattle.std.specs.Prelude.{ℕ, ◌+◌, ◌≤◌, ◌≡◌, Bool, true, false, List, [], ◌∷◌, drop, length}
 use Rattle.event.specs.Kinds.{field_lengths, kind_at}
 use Rattle.event.specs.ReadWrite.{read_at}

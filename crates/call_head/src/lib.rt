@@ -1,4 +1,6 @@
 // The kind and the lane of a call at an index of a sheet, and whether the sheet has its body whole.
+#![tactic(auto)]
+
 ghost use Rattle.std.specs.Prelude.{◌+◌, ◌≤◌, true, false, ◌≡◌, leb, length};
 ghost use Rattle.decode_fields.specs.Fields.{total};
 ghost use Rattle.call_head.specs.Head.{HeadMeets, lane_kind, rest_of};
@@ -6,7 +8,7 @@ ghost use Rattle.call_head.specs.Head.{HeadMeets, lane_kind, rest_of};
 use decode_fields::{Field8, read_u8};
 
 // A call's kind and lane and the index past them; `whole` where the kind names a lane and the sheet has the body whole.
-#[derive(Drop)]
+#[derive(Clone, Copy)]
 pub struct Head {
     pub kind: u8,
     pub lane: u8,
@@ -28,6 +30,7 @@ fn no_head() -> Head
 
 // Whether a sheet has the fields past the lane whole, from an index of it on.
 // No kind has more than 12 bytes there, so that mostly the kind need not be looked at.
+#[tactic(auto, using(crate::proofs::LaneKinds::few_rest, crate::proofs::Heads::room_shift))]
 fn has_rest(sheet: &[u8], to: usize, kind: u8) -> bool
     requires { (to ≤ length sheet.now) × (lane_kind kind ≡ true) }
     ensures { result ≡ leb (to + total (rest_of kind)) (length sheet.now) }

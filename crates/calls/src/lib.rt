@@ -1,5 +1,7 @@
 // The twelve calls, a function for each: it makes the event and calls `event_calls::call_event`. None requires anything.
 // A call's tests and what it does stand in `turn_calls` (02, 03, 04, 09), `record_calls` (05 to 08), `ordered_calls` (0A) and `setup_calls` (01, 0B, 0C).
+#![tactic(auto)]
+
 ghost use Rattle.event.specs.declared.Event.{Event};
 ghost use Rattle.steps.specs.Meets.{Meets, state_of};
 ghost use Rattle.steps.specs.Step.{call_event};

@@ -1,4 +1,4 @@
--- A lane's call as a change: what it sees, and the line after it. Tied to `call_event` by lane_calls/Steps: decided-step, to `sound` by changes/Within: within-of.
+-- A lane's call as a change: what it sees, and the line after it. Tied to `call_event` by lane_calls/Steps: decided_step, to `sound` by changes/Within: within_of.
 use Rattle.std.specs.Prelude.{ℕ, ◌+◌, ◌-◌, ◌%◌, ◌≤◌, Bool, true, cond, List, eqb, leb, ltb, get_or, ◌≡◌}
 use Rattle.lists.specs.Lists.{bit, implies, some_pass}
 use Rattle.view.specs.View.{fits}

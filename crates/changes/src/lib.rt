@@ -1,4 +1,6 @@
 // What a lane's call sees of the line, what it changes, and a change applied to the line.
+#![tactic(auto)]
+
 ghost use Rattle.std.specs.Prelude.{◌<◌, true, ◌≡◌};
 ghost use Rattle.limits.specs.Limits.{most_lanes};
 ghost use Rattle.changes.specs.Change.{entry_of, kept_change, missing_lane, outcome_of, refused_change, seen_of, wakes_in};
@@ -13,7 +15,7 @@ use waitlist::Wakes;
 pub mod phases;
 
 // What a lane's call sees: the line's numbers, whether a lane is gathered, and the lane's own phase and flag.
-#[derive(Drop)]
+#[derive(Clone, Copy)]
 pub struct Seen {
     pub lanes: u8,
     pub capacity: u32,
@@ -25,7 +27,7 @@ pub struct Seen {
 }
 
 // What a lane's call gives: its answer, the lane's phase and flag, the pointer and the size after it, and the lane that it wakes.
-#[derive(Drop)]
+#[derive(Clone, Copy)]
 pub struct Change {
     pub answer: Answer,
     pub phase: Phase,

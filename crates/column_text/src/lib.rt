@@ -1,4 +1,6 @@
 // Columns of a text: blanks stored in a lent buffer up to an index, before a text that is right-aligned or after one that is left-aligned.
+#![tactic(auto)]
+
 ghost use Rattle.std.specs.Prelude.{◌-◌, ◌≤◌, length, replicate};
 ghost use Rattle.number_text.specs.Stored.{Stored};
 

@@ -1,4 +1,6 @@
 // Events read from a lent sheet at a cursor: the body of each kind, then an event.
+#![tactic(auto)]
+
 ghost use Rattle.std.specs.Prelude.{◌≡◌};
 ghost use Rattle.event.specs.ReadWrite.{read_at};
 ghost use Rattle.decode.specs.Body.{body_at};

@@ -1,4 +1,4 @@
--- Fields at an index of a sheet, and what their readers answer. Tied to `read_at` by decode/Bodies: body-read, body-cut, and the contract of decode::read_event.
+-- Fields at an index of a sheet, and what their readers answer. Tied to `read_at` by decode/Bodies: body_read, body_cut, and the contract of decode::read_event.
 use Rattle.std.specs.Prelude.{ℕ, ◌+◌, cond, List, [], ◌∷◌, leb, drop, length}
 use Rattle.lists.specs.Lists.{sum_of}
 use Rattle.event.specs.Event.{block_list, block_numbers, fields_in}

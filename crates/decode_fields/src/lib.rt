@@ -1,4 +1,6 @@
 // Fields read from a lent sheet at an index: big-endian numbers of one, two, four and eight bytes, and blocks.
+#![tactic(auto)]
+
 ghost use Rattle.std.specs.Prelude.{◌≡◌, [], ◌∷◌, ◌+◌, ◌≤◌, ◌<◌, leb, drop, length, replicate, take};
 ghost use Rattle.event.specs.BigEndian.{number_of, signed};
 ghost use Rattle.decode_fields.specs.Fields.{fields_at, said8, said16, said32, said64, said_block, said_blocks, said_four};
@@ -7,44 +9,44 @@ use event::Blocks;
 use view::Block;
 
 // A field of one, two, four or eight bytes and the index past it, or the sheet ends before.
-#[derive(Drop)]
+#[derive(Clone, Copy)]
 pub enum Field8 {
     Value(u8, usize),
     Short,
 }
 
-#[derive(Drop)]
+#[derive(Clone, Copy)]
 pub enum Field16 {
     Value(u16, usize),
     Short,
 }
 
-#[derive(Drop)]
+#[derive(Clone, Copy)]
 pub enum Field32 {
     Value(u32, usize),
     Short,
 }
 
-#[derive(Drop)]
+#[derive(Clone, Copy)]
 pub enum Field64 {
     Value(u64, usize),
     Short,
 }
 
 // A block of a view event, four of them, and all eight, likewise.
-#[derive(Drop)]
+#[derive(Clone, Copy)]
 pub enum BlockField {
     Value(Block, usize),
     Short,
 }
 
-#[derive(Drop)]
+#[derive(Clone, Copy)]
 pub enum FourField {
     Value(Block, Block, Block, Block, usize),
     Short,
 }
 
-#[derive(Drop)]
+#[derive(Clone, Copy)]
 pub enum BlocksField {
     Value(Blocks, usize),
     Short,

@@ -1,4 +1,4 @@
--- The length of an event, and the buffer with an event at its start. Tied to `writing_of` and `written_to` by encode/Answers: refused-2, refused-3, written.
+-- The length of an event, and the buffer with an event at its start. Tied to `writing_of` and `written_to` by encode/Answers: refused_2, refused_3, written.
 use Rattle.std.specs.Prelude.{ℕ, ◌+◌, cond, List, ◌∷◌}
 use Rattle.event.specs.Kinds.{body_length, field_lengths, is_listed}
 use Rattle.event.specs.Event.{fields_of, kind_of}

@@ -1,4 +1,6 @@
 // Events written into a lent buffer, with the refusals 2 and 3.
+#![tactic(auto)]
+
 ghost use Rattle.std.specs.Prelude.{◌≡◌, ◌≤◌, length};
 ghost use Rattle.event.specs.ReadWrite.{writing_of, written_to};
 ghost use Rattle.encode.specs.Written.{length_of_event, with_event};

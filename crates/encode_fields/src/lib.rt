@@ -1,5 +1,7 @@
 // Fields stored big-endian in a lent buffer: numbers, blocks, and the kind with the fields of each shape of body.
 // Each requires the room that encode has tested.
+#![tactic(auto)]
+
 ghost use Rattle.std.specs.Prelude.{◌≡◌, [], ◌∷◌, ◌+◌, ◌≤◌, ◌<◌, length, replicate};
 ghost use Rattle.event.specs.BigEndian.{unsigned};
 ghost use Rattle.event.specs.Event.{block_list, block_numbers};

@@ -2,7 +2,7 @@
 use view::{Block, Place};
 
 // The eight blocks of a view event, in order. (An array cannot stand in an enum.)
-#[derive(Drop)]
+#[derive(Clone, Copy)]
 pub struct Blocks {
     pub b0: Block,
     pub b1: Block,
@@ -16,7 +16,7 @@ pub struct Blocks {
 
 // An event: the kinds 01 to 0C in order, with the fields in the body's order, and a case for any other kind.
 // `content` is document 01's record, as a number; `used` is its blocks, the number of those in use.
-#[derive(Drop)]
+#[derive(Clone, Copy)]
 pub enum Event {
     Open {
         lanes: u8,
@@ -70,13 +70,13 @@ pub enum Event {
 }
 
 // How far a sheet has been read: the byte at which the next event starts.
-#[derive(Drop)]
+#[derive(Clone, Copy)]
 pub struct Cursor {
     pub at: usize,
 }
 
 // What reading at a cursor finds: an event and the cursor past it, the sheet's end, or a refusal (2 or 3).
-#[derive(Drop)]
+#[derive(Clone, Copy)]
 pub enum Reading {
     Event { event: Event, next: Cursor },
     End,
@@ -84,7 +84,7 @@ pub enum Reading {
 }
 
 // What writing an event gives: its length in bytes, or a refusal (2 or 3).
-#[derive(Drop)]
+#[derive(Clone, Copy)]
 pub enum Writing {
     Length(usize),
     Refused(u8),

@@ -1,4 +1,4 @@
--- The outcome of a call whose bytes give no event: 1 on an unsound line, else 2 or 3. Tied to `step` by event_calls/Unsound: no-kind, refused-call.
+-- The outcome of a call whose bytes give no event: 1 on an unsound line, else 2 or 3. Tied to `step` by event_calls/Unsound: no_kind, refused_call.
 use Rattle.std.specs.Prelude.{ℕ, cond}
 use Rattle.line.specs.declared.Line.{Line}
 use Rattle.line.specs.Sound.{sound}

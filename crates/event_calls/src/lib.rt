@@ -1,4 +1,6 @@
 // A call given as an event, and a call given as a kind and body bytes: every entry goes through the first. None requires anything.
+#![tactic(auto)]
+
 ghost use Rattle.std.specs.Prelude.{true, ◌≡◌, length};
 ghost use Rattle.line.specs.Sound.{sound};
 ghost use Rattle.scopes.specs.Scope.{lane_event};

@@ -1,4 +1,6 @@
 // Sheets in words, stored in a lent buffer: a line an event, and the line at bytes that are none.
+#![tactic(auto)]
+
 ghost use Rattle.std.specs.Prelude.{◌+◌, ◌≤◌, ◌<◌, ◌≡◌, [], ◌∷◌, ◌++◌, length};
 ghost use Rattle.event.specs.Event.{fields_of};
 ghost use Rattle.printout.specs.Text.{ascii};

@@ -1,4 +1,4 @@
--- The line of an answer past the event's number, stored in a lent buffer. Tied to `answer_line` by answer_text/Answers: before-answer.
+-- The line of an answer past the event's number, stored in a lent buffer. Tied to `answer_line` by answer_text/Answers: before_answer.
 use Rattle.std.specs.Prelude.{ℕ, ◌+◌, ◌≤◌, List}
 use Rattle.steps.specs.declared.Answer.{Answer}
 use Rattle.printout.specs.Print.{answer_words, words}

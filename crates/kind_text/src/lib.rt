@@ -1,5 +1,7 @@
 // The line of an answer past the event's number, one function for each kind of a lane's call.
 // Kinds with the same answers have functions of equal text on purpose: with one caller each is inlined there, and the answer is not passed through memory.
+#![tactic(auto)]
+
 ghost use Rattle.std.specs.Prelude.{◌+◌, ◌≤◌, length};
 ghost use Rattle.answer_text.specs.Printing.{most_values};
 ghost use Rattle.kind_text.specs.Put.{Put};

@@ -1,4 +1,4 @@
--- The calls 02 to 09 as changes, and the book that each leaves. Tied to `call_event` by lane_calls/Steps: decided-step.
+-- The calls 02 to 09 as changes, and the book that each leaves. Tied to `call_event` by lane_calls/Steps: decided_step.
 use Rattle.std.specs.Prelude.{ℕ, List, ◌≡◌}
 use Rattle.view.specs.declared.View.{View}
 use Rattle.steps.specs.declared.Answer.{Answer}

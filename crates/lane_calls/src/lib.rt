@@ -1,5 +1,7 @@
 // The calls 02 to 09, which change one lane, the line's numbers and the lane that is woken, each as a change; used by the calls on a line.
 // The run of a sheet decides by the same functions below this (turn_calls, record_calls), with the view's table (sheet_calls).
+#![tactic(auto)]
+
 ghost use Rattle.std.specs.Prelude.{◌≡◌, length};
 ghost use Rattle.view.specs.View.{Positioned};
 ghost use Rattle.line.specs.Line.{place_in};

@@ -1,4 +1,4 @@
--- The rules of a single lane by their names, and the counts over all lanes. Tied to `sound` by the contract of soundness::is_sound, to `call_event` by ordered_calls/Steps: enter-step.
+-- The rules of a single lane by their names, and the counts over all lanes. Tied to `sound` by the contract of soundness::is_sound, to `call_event` by ordered_calls/Steps: enter_step_lem.
 use Rattle.std.specs.Prelude.{Bool, not, List, eqb}
 use Rattle.lists.specs.Lists.{count_pass}
 use Rattle.line.specs.Line.{flag_for, has_turn, is_gathered, is_idle, is_idle_or_gathered, on}

@@ -10,7 +10,7 @@ use line::{Line, Phase};
 use view::Place;
 
 // What a sound line asks of every lane, or of every lane past N.
-#[derive(Drop)]
+#[derive(Clone, Copy)]
 pub enum Rule {
     Idle,
     IdleOrGathered,

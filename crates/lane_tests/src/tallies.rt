@@ -8,7 +8,7 @@ use limits::MOST_LANES;
 use line::Lane;
 
 // How many lanes are flagged, how many have the turn, how many are gathered, and the gathered total.
-#[derive(Drop)]
+#[derive(Clone, Copy)]
 pub struct Tally {
     pub flagged: usize,
     pub turns: usize,
@@ -17,7 +17,7 @@ pub struct Tally {
 }
 
 // What decides an enter: how many lanes are not idle, how many are gathered, and the records that these have in all.
-#[derive(Drop)]
+#[derive(Clone, Copy)]
 pub struct LaneCounts {
     pub active: u32,
     pub gathered: u32,

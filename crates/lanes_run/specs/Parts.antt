@@ -1,4 +1,4 @@
--- The parts of a run: where it stands, and what a part of it has added. Tied to `run_on` by lanes_run/Going: goes-on, joined.
+-- The parts of a run: where it stands, and what a part of it has added. Tied to `run_on` by lanes_run/Going: goes_on, joined.
 use Rattle.std.specs.Prelude.{ℕ, ◌+◌, ◌-◌, ◌*◌, ◌≤◌, true, not, List, ◌++◌, ◌≡◌, eqb, length}
 use Rattle.limits.specs.Limits.{most_sheet}
 use Rattle.view.specs.declared.Place.{Place}

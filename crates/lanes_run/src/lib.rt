@@ -31,7 +31,7 @@ use wait_counts::count_answer;
 use waitlist::Wakes;
 
 // Where a run stands: the line, the index of the next event, the length of the text, and how many events there were.
-#[derive(Drop)]
+#[derive(Clone, Copy)]
 pub struct Standing {
     pub line: Line,
     pub at: usize,
@@ -40,14 +40,14 @@ pub struct Standing {
 }
 
 // What refuses a call on the whole line, 0 for nothing, and the index of the next event.
-#[derive(Drop)]
+#[derive(Clone, Copy)]
 pub struct LineRefused {
     pub number: u8,
     pub at: usize,
 }
 
 // The lanes once an ordered call has started, and their counts.
-#[derive(Drop)]
+#[derive(Clone, Copy)]
 pub struct Started {
     pub lane: [Lane; MOST_LANES],
     pub counts: LaneCounts,

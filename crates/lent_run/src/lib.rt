@@ -1,4 +1,6 @@
 // A report lent to a sheet's run, which grows in place: a thin function over the run by value.
+#![tactic(auto)]
+
 ghost use Rattle.steps.specs.Meets.{state_of};
 ghost use Rattle.run.specs.Runs.{RunMeets, reported_of};
 

@@ -6,7 +6,7 @@ use limits::MOST_LANES;
 use view::{Place, View};
 
 // What a lane wants the book for.
-#[derive(Drop)]
+#[derive(Clone, Copy)]
 pub enum Purpose {
     SharedWrite,
     SharedRead,
@@ -14,7 +14,7 @@ pub enum Purpose {
 }
 
 // A lane's phase; a busy lane has a region: the records left and then the next place, in which order a lane takes 8 bytes.
-#[derive(Drop)]
+#[derive(Clone, Copy)]
 pub enum Phase {
     Idle,
     Waiting(Purpose),
@@ -26,13 +26,13 @@ pub enum Phase {
 }
 
 // A lane (a process of source document 001).
-#[derive(Drop)]
+#[derive(Clone, Copy)]
 pub struct Lane {
     pub phase: Phase,
 }
 
 // The line: N in `lanes`, capacity and size in bytes, and an entry of `lane` and of `flag` for each lane that there could be.
-#[derive(Drop)]
+#[derive(Clone, Copy)]
 pub struct Line {
     pub lanes: u8,
     pub capacity: u32,

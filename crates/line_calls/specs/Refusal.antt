@@ -1,4 +1,4 @@
--- What refuses a call on the whole line, from a few numbers; 0 for nothing, and for an enter. Tied to `call_event` by line_calls/Steps: line-refused.
+-- What refuses a call on the whole line, from a few numbers; 0 for nothing, and for an enter. Tied to `call_event` by line_calls/Steps: line_refused.
 use Rattle.std.specs.Prelude.{ℕ, Bool}
 use Rattle.view.specs.declared.Place.{Place}
 use Rattle.view.specs.declared.View.{View}

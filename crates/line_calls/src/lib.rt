@@ -1,4 +1,6 @@
 // The calls that can change the whole line: 01, 0A, 0B and 0C. The line is sound: the entries test that.
+#![tactic(auto)]
+
 ghost use Rattle.std.specs.Prelude.{true, ◌≡◌, length};
 ghost use Rattle.line.specs.Sound.{sound};
 ghost use Rattle.scopes.specs.Scope.{line_event};

@@ -1,4 +1,4 @@
--- A line's number and the blank after it as the bytes of a word, and stored in a lent buffer. Tied to `answer_line` by line_number/Answers: answer-line.
+-- A line's number and the blank after it as the bytes of a word, and stored in a lent buffer. Tied to `answer_line` by line_number/Answers: answer_line_lem.
 use Rattle.std.specs.Prelude.{ℕ, ◌+◌, ◌-◌, ◌%◌, ◌^◌, ◌≤◌, ◌≡◌, ◌⊎◌, List, ◌∷◌, ◌++◌, length, replicate}
 use Rattle.std.proofs.lemmas.List.Edits.{sets}
 use Rattle.event.specs.BigEndian.{number_of}

@@ -1,4 +1,6 @@
 // The number of a printed line and the blank after it, kept as the bytes that are stored and counted up in the last digit.
+#![tactic(auto)]
+
 ghost use Rattle.std.specs.Prelude.{◌≡◌, [], ◌∷◌, ◌+◌, ◌-◌, ◌/◌, ◌%◌, ◌≤◌, ◌<◌, length};
 ghost use Rattle.event.specs.BigEndian.{number_of};
 ghost use Rattle.line_number.specs.Numbered.{InDigits, Keeps, Numbered, number_in};
@@ -8,7 +10,7 @@ use word_text::{BLANK, put_number};
 
 // `word` has the bytes of the number and of a blank, the first highest, and `width` is how many they are; `unit` is 1 in the byte of the last digit; `left` is
 // how many numbers, from this one on, have the same digits but the last, and `ten` is the first after those. A width of 0: no bytes are kept.
-#[derive(Drop)]
+#[derive(Clone, Copy)]
 pub struct LineNumber {
     pub ten: u64,
     pub word: u64,

@@ -1,4 +1,4 @@
--- What `linebook` prints of a sheet, in a lent buffer. Tied to `linebook` of `printout`, where there is room, by linebook_text/Linebook: prints-linebook.
+-- What `linebook` prints of a sheet, in a lent buffer. Tied to `linebook` of `printout`, where there is room, by linebook_text/Linebook: prints_linebook.
 use Rattle.std.specs.Prelude.{ℕ, ◌≤◌, Bool, true, cond, ◌≡◌, List, ltb, length}
 use Rattle.std.proofs.lemmas.List.Edits.{sets}
 use Rattle.steps.specs.State.{fresh}

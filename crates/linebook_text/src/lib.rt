@@ -1,5 +1,8 @@
 // What `linebook` prints of a sheet: the lines of its run from an unopened line, or that it is too long.
-ghost use Rattle.linebook_text.specs.Whole.{SheetMeets, TooLongMeets};
+#![tactic(auto)]
+
+ghost use Rattle.std.specs.Prelude.{◌≡◌};
+ghost use Rattle.linebook_text.specs.Whole.{SheetMeets, TooLongMeets, is_too_long};
 
 use answer_text::Printed;
 use limits::MOST_SHEET;
@@ -18,11 +21,18 @@ fn print_too_long(out: &mut [u8]) -> Printed
     Printed::Length(put_word(out, 0, b"sheet too long", LINE_END))
 }
 
+// Whether a sheet is longer than the longest.
+fn is_too_long(sheet: &[u8]) -> bool
+    ensures { result ≡ is_too_long sheet.now }
+{
+    MOST_SHEET < sheet.len()
+}
+
 // Runs a sheet from an unopened line over a lent book; the text stands at the start of `out`.
 pub fn print_sheet(sheet: &[u8], book: &mut [u8], out: &mut [u8]) -> Printed
     ensures { SheetMeets book.old sheet.now out.old result book.new out.new }
 {
-    if MOST_SHEET < sheet.len() {
+    if is_too_long(sheet) {
         return print_too_long(out);
     }
     let line = Line::unopened();

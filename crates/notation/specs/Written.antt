@@ -1,4 +1,4 @@
--- The digits of a text, and bytes written as a text: what notation/Pairs: digits-are-bytes and notation/RoundTrip: written-parses speak of.
+-- The digits of a text, and bytes written as a text: what notation/Pairs: digits_are_bytes and notation/RoundTrip: written_parses speak of.
 use Rattle.std.specs.Prelude.{ℕ, ◌/◌, ◌%◌, Bool, true, false, cond, not, List, [], ◌∷◌, ◌++◌, eqb, ltb}
 use Rattle.printout.specs.Print.{hex_in}
 use Rattle.notation.specs.Notation.{digit_of, is_line_end}

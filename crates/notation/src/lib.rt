@@ -1,4 +1,6 @@
 // The notation of the papers, read: pairs of hexadecimal digits, free characters between them, and comments from # to the line's end.
+#![tactic(auto)]
+
 ghost use Rattle.std.specs.Prelude.{◌+◌, ◌≤◌, ◌<◌, ◌≡◌, length};
 ghost use Rattle.number_text.specs.Stored.{Stored};
 ghost use Rattle.notation.specs.Notation.{begins_notation, between_step, notation_bytes, digit_of, fault_of, found_at, is_free, is_line_end, left_of, left_past, looks_like_notation, made_of, mark_length, missing_at, most_notation, parsed_of, parsed_past, passed_of, second_step, spot_of, spot_past, character_step, stored_of, stored_to};
@@ -11,7 +13,7 @@ const NONE: u8 = 16;
 
 // What is known after a character: in a comment or not, the first digit of a byte or NONE,
 // and whether the character ended a byte (its value) or was bad.
-#[derive(Drop)]
+#[derive(Clone, Copy)]
 pub struct State {
     pub comment: bool,
     pub high: u8,
@@ -41,7 +43,7 @@ impl State {
 }
 
 // What is wrong in a text first: no digit, or no second digit after a byte's first, by the index of what stands there instead.
-#[derive(Drop)]
+#[derive(Clone, Copy)]
 pub enum Fault {
     NoDigit(usize),
     NoSecond(usize),
@@ -49,14 +51,14 @@ pub enum Fault {
 }
 
 // What stands at an index of a text.
-#[derive(Drop)]
+#[derive(Clone, Copy)]
 pub enum Found {
     Byte(u8),
     End,
 }
 
 // A line and a column of a text, both from 1.
-#[derive(Drop)]
+#[derive(Clone, Copy)]
 pub struct Spot {
     pub line: u64,
     pub column: u64,
@@ -64,7 +66,7 @@ pub struct Spot {
 
 // What a parse answers: the number of bytes stored; where a digit or a second digit is missing, and what was found there;
 // a text of more than MOST_NOTATION bytes; or a buffer too short for the bytes.
-#[derive(Drop)]
+#[derive(Clone, Copy)]
 pub enum Parsed {
     Length(usize),
     NoDigit(Spot, u8),

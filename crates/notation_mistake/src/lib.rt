@@ -1,4 +1,6 @@
 // Whether a sheet is a text in the papers' notation by mistake, for programs that take bytes.
+#![tactic(auto)]
+
 ghost use Rattle.std.specs.Prelude.{true, ◌≡◌};
 ghost use Rattle.notation_mistake.specs.Mistake.{is_notation, is_whole, whole_by};
 

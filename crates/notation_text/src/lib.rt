@@ -1,4 +1,6 @@
 // What is said of notation that is refused, stored in a lent buffer: the place, what was expected there and what was found.
+#![tactic(auto)]
+
 ghost use Rattle.std.specs.Prelude.{◌+◌, ◌≤◌, ◌≡◌, [], ◌∷◌, ◌++◌, length};
 ghost use Rattle.printout.specs.Text.{ascii};
 ghost use Rattle.number_text.specs.Stored.{Stored};

@@ -1,4 +1,6 @@
 // Numbers in decimal and in hexadecimal, stored as ASCII digits in a lent buffer.
+#![tactic(auto)]
+
 ghost use Rattle.std.specs.Prelude.{◌≡◌, [], ◌∷◌, ◌+◌, ◌/◌, ◌%◌, ◌≤◌, ◌<◌, length};
 ghost use Rattle.printout.specs.Print.{decimal, hex_digit, hex_in};
 ghost use Rattle.number_text.specs.Stored.{Stored};

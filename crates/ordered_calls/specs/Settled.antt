@@ -1,4 +1,4 @@
--- What an enter comes to, from a few numbers, and what it leaves. Tied to `call_event` by ordered_calls/Steps: enter-step.
+-- What an enter comes to, from a few numbers, and what it leaves. Tied to `call_event` by ordered_calls/Steps: enter_step_lem.
 use Rattle.std.specs.Prelude.{ℕ, ◌+◌, ◌≤◌, Bool, true, false, cond, not, List, ◌≡◌, eqb, drop}
 use Rattle.lists.specs.Lists.{all_pass}
 use Rattle.limits.specs.Limits.{most_lanes}

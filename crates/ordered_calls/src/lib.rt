@@ -1,4 +1,6 @@
 // The call 0A enter: a lane enters an ordered call, and the last one to enter starts all of them. A few numbers decide it. The line is sound: the entries test that.
+#![tactic(auto)]
+
 ghost use Rattle.std.specs.Prelude.{◌+◌, ◌≤◌, true, ◌≡◌, length};
 ghost use Rattle.limits.specs.Limits.{most_pointer};
 ghost use Rattle.line.specs.Sound.{sound};
@@ -17,7 +19,7 @@ use steps::{Answer, Outcome};
 use view::Place;
 
 // What an enter of a lane comes to.
-#[derive(Drop)]
+#[derive(Clone, Copy)]
 pub enum Entered {
     Refused(u8),
     Gathered,

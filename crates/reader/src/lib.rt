@@ -1,18 +1,20 @@
 // A reader over a lent sheet that remembers how far it has got: thin functions over decode's read_event.
+#![tactic(auto)]
+
 ghost use Rattle.std.specs.Prelude.{◌≡◌};
 ghost use Rattle.reader.specs.Reader.{after_reading, onward, step_at, reader_step};
 
 use event::{Cursor, Reading};
 
 // What was read, and where the reader stands then.
-#[derive(Drop)]
+#[derive(Clone, Copy)]
 pub struct Step {
     pub reading: Reading,
     pub at: usize,
 }
 
 // The lent sheet, and the index at which the next event starts.
-#[derive(Drop)]
+#[derive(Clone, Copy)]
 pub struct Reader<'a> {
     pub sheet: &'a [u8],
     pub at: usize,

@@ -1,4 +1,4 @@
--- The calls 05, 06, 07 and 08 as changes, past the tests of 4 and 8. Tied to `call_event` by record_calls/Steps: write-step, read-step, put-step, look-step.
+-- The calls 05, 06, 07 and 08 as changes, past the tests of 4 and 8. Tied to `call_event` by record_calls/Steps: write_step_lem, read_step_lem, put_step, look_step.
 use Rattle.std.specs.Prelude.{ℕ, ◌+◌, max, Bool, true, cond, not, List, leb, drop, take}
 use Rattle.std.proofs.lemmas.List.Edits.{sets}
 use Rattle.lists.specs.Lists.{implies}

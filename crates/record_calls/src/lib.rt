@@ -1,4 +1,6 @@
 // The calls on records as changes, by a lane of an open line (`lane_calls` gives 4 and 8): 05 write, 06 read, 07 put and 08 look; and the bytes that a record put changes.
+#![tactic(auto)]
+
 ghost use Rattle.std.specs.Prelude.{◌+◌, ◌-◌, ◌≤◌, ◌<◌, max, true, ◌≡◌, leb, length};
 ghost use Rattle.view.specs.View.{most_position};
 ghost use Rattle.limits.specs.Limits.{most_pointer};

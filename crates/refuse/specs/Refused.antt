@@ -1,4 +1,4 @@
--- "A refusal returns its number alone and alters neither the line nor any buffer": the outcome. Tied to `refuse` of a step by refuse/First: meets-refused.
+-- "A refusal returns its number alone and alters neither the line nor any buffer": the outcome. Tied to `refuse` of a step by refuse/First: meets_refused.
 use Rattle.std.specs.Prelude.{ℕ}
 use Rattle.line.specs.declared.Line.{Line}
 use Rattle.steps.specs.declared.Answer.{Answer}

@@ -9,7 +9,7 @@ use limits::{MOST_LANES, MOST_SHEET};
 
 // Of the waits that ended how many, and the sum and the largest of their releases; and how many had not ended.
 #[repr(C)]
-#[derive(Drop)]
+#[derive(Clone, Copy)]
 pub struct Row {
     pub times: u64,
     pub sum: u64,
@@ -19,7 +19,7 @@ pub struct Row {
 
 // A row for each lane, and one for all lanes, which grows from its own values.
 #[repr(C)]
-#[derive(Drop)]
+#[derive(Clone, Copy)]
 pub struct Report {
     pub lane: [Row; MOST_LANES],
     pub all: Row,

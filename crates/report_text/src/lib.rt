@@ -1,4 +1,6 @@
 // The report of waiting as a table, stored in a lent buffer: a header, a line for each lane that has any wait, and a line for all lanes.
+#![tactic(auto)]
+
 ghost use Rattle.std.specs.Prelude.{◌+◌, ◌-◌, ◌≤◌, ◌<◌, [], ◌∷◌, ◌++◌, map, ◌≡◌, length};
 ghost use Rattle.number_text.specs.Stored.{Stored};
 ghost use Rattle.printout.specs.Text.{ascii};

@@ -19,14 +19,14 @@ use soundness::is_sound;
 use wait_counts::{COUNTS, grow};
 
 // What a run gives: the line as it leaves it, and the length of the text, or that the buffer lent for the text is too short.
-#[derive(Drop)]
+#[derive(Clone, Copy)]
 pub struct RunOutcome {
     pub line: Line,
     pub printed: Printed,
 }
 
 // The same with the report of waiting, where that is handed over by value.
-#[derive(Drop)]
+#[derive(Clone, Copy)]
 pub struct Reported {
     pub line: Line,
     pub printed: Printed,

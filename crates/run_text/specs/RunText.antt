@@ -1,4 +1,4 @@
--- The text of a run: the most bytes that it takes, and its last lines. Tied to `run` and `printed` by run/Going: ends, and run/Last: refused-run.
+-- The text of a run: the most bytes that it takes, and its last lines. Tied to `run` and `printed` by run/Going: ends, and run/Last: refused_run.
 use Rattle.std.specs.Prelude.{ℕ, ◌+◌, ◌*◌, List, ◌++◌}
 use Rattle.line.specs.declared.Line.{Line}
 use Rattle.event.specs.declared.Reading.{Reading}

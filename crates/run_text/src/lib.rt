@@ -1,4 +1,6 @@
 // The text of a run: the room that it takes, and its last lines.
+#![tactic(auto)]
+
 ghost use Rattle.std.specs.Prelude.{◌+◌, ◌≤◌, ◌≡◌, leb, length};
 ghost use Rattle.number_text.specs.Stored.{Stored};
 ghost use Rattle.run_text.specs.RunText.{last_lines, most_last, most_text};

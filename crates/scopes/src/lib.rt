@@ -1,4 +1,6 @@
 // A call by what it can change: one lane, with the line's numbers and the lane that it wakes, or the whole line.
+#![tactic(auto)]
+
 ghost use Rattle.std.specs.Prelude.{◌≡◌};
 ghost use Rattle.scopes.specs.Scope.{scope_of};
 
@@ -6,7 +8,7 @@ use event::{Blocks, Event};
 use view::Place;
 
 // A call of a lane, of the kinds 02 to 09, but for its lane.
-#[derive(Drop)]
+#[derive(Clone, Copy)]
 pub enum LaneCall {
     Want { purpose: u8 },
     Receive,
@@ -19,7 +21,7 @@ pub enum LaneCall {
 }
 
 // A call on the whole line: 01, 0A, 0B or 0C.
-#[derive(Drop)]
+#[derive(Clone, Copy)]
 pub enum LineCall {
     Open {
         lanes: u8,
@@ -42,7 +44,7 @@ pub enum LineCall {
 }
 
 // What an event calls: a call of a lane, one on the whole line, or none, where its kind is not listed.
-#[derive(Drop)]
+#[derive(Clone, Copy)]
 pub enum Scope {
     Lane { lane: u8, call: LaneCall },
     Line { call: LineCall },

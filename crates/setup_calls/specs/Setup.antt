@@ -1,4 +1,4 @@
--- What the calls that set the line up decide from numbers: the refusal, 0 for none, and the place of a seek. Tied to `call_event` by setup_calls/Steps: open-step, view-step, seek-step.
+-- What the calls that set the line up decide from numbers: the refusal, 0 for none, and the place of a seek. Tied to `call_event` by setup_calls/Steps: open_step_lem, view_step_lem, seek_step_lem.
 use Rattle.std.specs.Prelude.{ℕ, zero, suc, Bool, cond, not, ◌&&◌, eqb, leb, ltb, ℤ, pos, ◌+ℤ◌}
 use Rattle.limits.specs.Limits.{least_capacity, most_capacity, most_lanes}
 use Rattle.view.specs.View.{end_of_book, place, view_ok}

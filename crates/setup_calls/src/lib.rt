@@ -1,4 +1,6 @@
 // The calls that set the line up: 01 open, 0B view and 0C seek. What refuses one is decided from a few numbers. The line handed to them is sound: the entries test that.
+#![tactic(auto)]
+
 ghost use Rattle.std.specs.Prelude.{true, ◌≡◌, length};
 ghost use Rattle.line.specs.Sound.{sound};
 ghost use Rattle.event.specs.declared.Event.{Event};

@@ -10,7 +10,7 @@ use view::{Place, View};
 const LAST_PLACE: i64 = MOST_POINTER as i64;
 
 // The place, or the sum is below 0 or above the last place that the pointer takes.
-#[derive(Drop)]
+#[derive(Clone, Copy)]
 pub enum Sought {
     At(Place),
     Outside,

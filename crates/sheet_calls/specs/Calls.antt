@@ -1,4 +1,4 @@
--- A lane's call of a sheet: what it changes by the view's table, and what its function leaves. Tied to `decided_at` by sheet_calls/Tables: table-decided.
+-- A lane's call of a sheet: what it changes by the view's table, and what its function leaves. Tied to `decided_at` by sheet_calls/Tables: table_decided_lem.
 use Rattle.std.specs.Prelude.{ℕ, ◌+◌, ◌-◌, ◌≤◌, ◌≡◌, Bool, true, false, cond, not, List, [], ◌∷◌, eqb, length}
 use Rattle.lists.specs.Lists.{bit}
 use Rattle.limits.specs.Limits.{most_lanes, most_pointer}

@@ -20,7 +20,7 @@ mod records;
 mod turns;
 
 // What a call changes, the counts of all lanes after it (of a refused call they mean nothing, and are not stored), the index after its line, the index of the next event, whether it was refused, and whether it starts an ordered call.
-#[derive(Drop)]
+#[derive(Clone, Copy)]
 pub struct Called {
     pub change: Change,
     pub counts: LaneCounts,
@@ -31,7 +31,7 @@ pub struct Called {
 }
 
 // A call of a lane: its kind and lane, what the lane sees, and the counts of all lanes.
-#[derive(Drop)]
+#[derive(Clone, Copy)]
 pub struct Caller {
     pub head: Head,
     pub seen: Seen,
@@ -136,6 +136,7 @@ fn refused_call(
 }
 
 // A call of a lane: 4 and 8 come before what its kind tests.
+#[tactic(auto, using(crate::proofs::Rans::by_want, crate::proofs::Rans::by_receive, crate::proofs::Rans::by_take, crate::proofs::Rans::by_write, crate::proofs::Rans::by_read, crate::proofs::Rans::by_put, crate::proofs::Rans::by_look, crate::proofs::Rans::by_free, crate::proofs::Rans::by_entered, crate::proofs::Rans::by_refused))]
 pub fn call_lane(
     caller: Caller,
     tiling: Tiling,

@@ -1,4 +1,6 @@
 // Whether a line is sound: the test that comes before every call.
+#![tactic(auto)]
+
 ghost use Rattle.std.specs.Prelude.{◌≤◌, ◌≡◌, true};
 ghost use Rattle.limits.specs.Limits.{most_pointer};
 ghost use Rattle.line.specs.Sound.{busy_ok, flags_ok, gathered_ok, past_ok, sound, turn_ok};
@@ -10,6 +12,7 @@ use line::Line;
 mod numbers;
 
 // "If a flag is 1, exactly one lane is woken or holding, and its value is the pointer"; the flags are those of the phases.
+#[tactic(auto, using(crate::proofs::Laws::raised_any))]
 fn turn_ok(line: Line) -> bool
     requires { flags_ok line ≡ true }
     ensures { result ≡ turn_ok line }

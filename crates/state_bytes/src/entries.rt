@@ -19,7 +19,7 @@ use view::Place;
 const ENTRIES_AT: usize = 64;
 
 // The numbers of an entry.
-#[derive(Drop)]
+#[derive(Clone, Copy)]
 pub struct Entry {
     pub phase: u8,
     pub purpose: u8,

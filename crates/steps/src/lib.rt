@@ -4,7 +4,7 @@ use view::{Place, Position};
 use waitlist::Wakes;
 
 // The answer to a call, a case for each word of document 01, and a refusal with its number. `content` is a record, as a number.
-#[derive(Drop)]
+#[derive(Clone, Copy)]
 pub enum Answer {
     Open {
         lanes: u8,
@@ -44,7 +44,7 @@ pub enum Answer {
 }
 
 // What a call gives: the line as it leaves it, and its answer.
-#[derive(Drop)]
+#[derive(Clone, Copy)]
 pub struct Outcome {
     pub line: Line,
     pub answer: Answer,

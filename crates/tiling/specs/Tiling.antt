@@ -1,4 +1,4 @@
--- What a position needs of a view, as three numbers and a table of records. Tied to `position_of` and `fits` by tiling/Laws: table-position, table-fits.
+-- What a position needs of a view, as three numbers and a table of records. Tied to `position_of` and `fits` by tiling/Laws: table_position_lem, table_fits_lem.
 use Rattle.std.specs.Prelude.{ℕ, zero, suc, ◌+◌, ◌-◌, ◌*◌, ◌/◌, ◌%◌, ◌≤◌, ◌<◌, ◌≡◌, Bool, true, List, [], ◌∷◌, ◌++◌, get_or, replicate, leb}
 use Rattle.limits.specs.Limits.{most_blocks, most_extent}
 use Rattle.view.specs.declared.Block.{Block}

@@ -12,7 +12,7 @@ use view::{Block, Place, Position, View};
 pub const MOST_RECORDS: usize = MOST_EXTENT as usize;
 
 // What a position needs of a view, but for the records that it shows of a tile, which stand beside it in a table.
-#[derive(Drop)]
+#[derive(Clone, Copy)]
 pub struct Tiling {
     pub displacement: u32,
     pub extent: u16,

@@ -1,4 +1,4 @@
--- The steps in which a trace is printed, an event each: what one stores, and where it leaves the run. That the steps together print the trace: trace_text/Runs: steps-print.
+-- The steps in which a trace is printed, an event each: what one stores, and where it leaves the run. That the steps together print the trace: trace_text/Runs: steps_print.
 use Rattle.std.specs.Prelude.{ℕ, zero, suc, ◌+◌, ◌*◌, ◌≤◌, ◌<◌, Bool, true, false, cond, not, List, [], ◌++◌, ◌≡◌, leb, get_or, length, replicate, set}
 use Rattle.limits.specs.Limits.{most_lanes}
 use Rattle.lists.specs.Lists.{all_pass}

@@ -1,4 +1,4 @@
--- The trace of a sheet's run, whole: what the letters mean, a line an event, what is left, and how many events were accepted and refused. Tied to `run` by trace_text/Runs: trace-states, fresh-answers, fresh-after.
+-- The trace of a sheet's run, whole: what the letters mean, a line an event, what is left, and how many events were accepted and refused. Tied to `run` by trace_text/Runs: trace_states, fresh_answers, fresh_after.
 use Rattle.std.specs.Prelude.{ℕ, zero, suc, cond, List, [], ◌∷◌, ◌++◌, map, eqb, get_or, length}
 use Rattle.lists.specs.Lists.{count_pass}
 use Rattle.line.specs.Line.{is_idle, phase_at, phase_number}

@@ -1,4 +1,6 @@
 // The trace of a sheet's run, a step an event: the event and its answer in words, the lanes as a row of letters, the pointer and the size; then counts.
+#![tactic(auto)]
+
 ghost use Rattle.std.specs.Prelude.{◌+◌, ◌≤◌, ◌<◌, true, [], ◌∷◌, ◌≡◌, leb, length};
 ghost use Rattle.lists.specs.Lists.{all_pass};
 ghost use Rattle.event.specs.declared.Reading.{Reading};
@@ -31,7 +33,7 @@ pub mod summary;
 pub const COUNTS: usize = 18;
 
 // Where a trace stands: the line, the next byte of the sheet, the next event's number, and how many were accepted and refused, by number.
-#[derive(Drop)]
+#[derive(Clone, Copy)]
 pub struct Tracing {
     pub line: Line,
     pub at: usize,
@@ -40,7 +42,7 @@ pub struct Tracing {
 }
 
 // A step: where the trace stands after it, the length of its text, and whether the run goes on.
-#[derive(Drop)]
+#[derive(Clone, Copy)]
 pub struct Traced {
     pub next: Tracing,
     pub length: usize,

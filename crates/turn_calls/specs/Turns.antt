@@ -1,4 +1,4 @@
--- The calls 02, 03, 04 and 09 as changes, past the tests of 4 and 8. Tied to `call_event` by turn_calls/Steps: want-step, receive-step, take-step, free-step.
+-- The calls 02, 03, 04 and 09 as changes, past the tests of 4 and 8. Tied to `call_event` by turn_calls/Steps: want_step_lem, receive_step_lem, take_step_lem, free_step.
 use Rattle.std.specs.Prelude.{ℕ, ◌+◌, Bool, cond, not, List, eqb, ltb, set}
 use Rattle.lists.specs.Lists.{all_pass}
 use Rattle.view.specs.View.{fits, place}

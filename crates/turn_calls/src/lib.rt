@@ -1,4 +1,6 @@
 // The calls 02 want, 03 receive, 04 take and 09 free as changes, by a lane of an open line (`lane_calls` gives 4 and 8): the tests in the order of the refusals, then what the call does.
+#![tactic(auto)]
+
 ghost use Rattle.std.specs.Prelude.{◌≤◌, ◌≡◌};
 ghost use Rattle.limits.specs.Limits.{most_pointer};
 ghost use Rattle.line.specs.Line.{place_in};

@@ -1,4 +1,4 @@
--- What a run counts of waiting: a list of numbers, four for each lane and then the releases. Tied to `lane_waits` and `grown` by wait_counts/Totals: total-step, and wait_counts/Reports: report-is.
+-- What a run counts of waiting: a list of numbers, four for each lane and then the releases. Tied to `lane_waits` and `grown` by wait_counts/Totals: total_step, and wait_counts/Reports: report_is.
 use Rattle.std.specs.Prelude.{ℕ, zero, suc, ◌+◌, ◌-◌, ◌*◌, ◌≤◌, ◌<◌, max, cond, List, ◌≡◌, eqb, get_or, length, replicate, set}
 use Rattle.limits.specs.Limits.{most_lanes, most_sheet}
 use Rattle.waitlist.specs.declared.Wakes.{Wakes}

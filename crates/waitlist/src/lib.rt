@@ -1,4 +1,6 @@
 // The waitlist: whether another lane has its flag up, and which lane a release wakes.
+#![tactic(auto)]
+
 ghost use Rattle.std.specs.Prelude.{◌<◌, min, ◌≡◌, eqb, get_or, length, set};
 ghost use Rattle.lists.specs.Lists.{all_pass};
 ghost use Rattle.waitlist.specs.NextLane.{next_lane};
@@ -8,7 +10,7 @@ use limits::MOST_LANES;
 mod words;
 
 // The lane that a release wakes, if a lane waits.
-#[derive(Drop)]
+#[derive(Clone, Copy)]
 pub enum Wakes {
     Lane(u8),
     None,

@@ -9,6 +9,7 @@ use super::least;
 use limits::MOST_LANES;
 
 // The word of lane i's flag alone: a flag is up where it is 1 and no other number.
+#[tactic(auto, unfolding(crate::specs::Words::word))]
 fn word_1(flags: &[u8; MOST_LANES], i: usize) -> u32
     requires { i + 1 ≤ most_lanes }
     ensures { result ≡ word flags.now i 1 }

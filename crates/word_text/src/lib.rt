@@ -1,4 +1,6 @@
 // Words, numbers and lines of them, stored in a lent buffer: each shape of line that an answer has. Each requires the room for its text.
+#![tactic(auto)]
+
 ghost use Rattle.std.specs.Prelude.{◌≡◌, [], ◌∷◌, ◌++◌, ◌+◌, ◌≤◌, ◌<◌, length};
 ghost use Rattle.printout.specs.Text.{ascii};
 ghost use Rattle.printout.specs.Print.{decimal, hex_in, wakes_words, words};
