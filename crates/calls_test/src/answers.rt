@@ -28,10 +28,8 @@ pub fn wide32(x: u32) -> u64 {
 
 // Two hexadecimal digits for each byte.
 pub fn digits(bytes: &[u8]) {
-    let mut i: usize = 0;
-    while i < bytes.len() {
-        io::print_hex(1, wide8(bytes[i]), 2);
-        i += 1;
+    for byte in bytes {
+        io::print_hex(1, wide8(*byte), 2);
     }
 }
 

@@ -10,21 +10,17 @@ fn fresh(i: usize) -> u8 {
 
 // Fills a lent book.
 pub fn fill(book: &mut [u8]) {
-    let mut i: usize = 0;
-    while i < book.len() {
-        book[i] = fresh(i);
-        i += 1;
+    for (i, byte) in book.iter_mut().enumerate() {
+        *byte = fresh(i);
     }
 }
 
 // The first byte that is not as before the call, or the book's length.
 pub fn first_changed(book: &[u8]) -> usize {
-    let mut i: usize = 0;
-    while i < book.len() {
-        if book[i] != fresh(i) {
+    for (i, byte) in book.iter().enumerate() {
+        if *byte != fresh(i) {
             return i;
         }
-        i += 1;
     }
     book.len()
 }
@@ -33,26 +29,16 @@ pub fn first_changed(book: &[u8]) -> usize {
 fn end_changed(book: &[u8]) -> usize
     ensures { result ≤ length book.now }
 {
-    let mut i = book.len();
-    while 0 < i {
-        let last = i - 1;
+    for last in (0..book.len()).rev() {
         if book[last] != fresh(last) {
-            return i;
+            return last + 1;
         }
-        i = last;
     }
     0
 }
 
 fn all_zero(bytes: &[u8]) -> bool {
-    let mut i: usize = 0;
-    while i < bytes.len() {
-        if bytes[i] != 0 {
-            return false;
-        }
-        i += 1;
-    }
-    true
+    bytes.iter().all(|byte| *byte == 0)
 }
 
 // Bytes in hexadecimal; a run of zeros in a word.

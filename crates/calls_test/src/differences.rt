@@ -30,10 +30,8 @@ fn print_block(b: Block) {
 }
 
 fn print_blocks(block: [Block; 8]) {
-    let mut i: usize = 0;
-    while i < 8 {
+    for i in 0..8 {
         print_block(block[i]);
-        i += 1;
     }
 }
 
@@ -68,18 +66,14 @@ fn print_flag(i: usize, was: u8, is: u8) {
 }
 
 fn print_lanes(was: [Lane; MOST_LANES], is: [Lane; MOST_LANES]) {
-    let mut i: usize = 0;
-    while i < MOST_LANES {
+    for i in 0..MOST_LANES {
         print_lane(i, was[i], is[i]);
-        i += 1;
     }
 }
 
 fn print_flags(was: [u8; MOST_LANES], is: [u8; MOST_LANES]) {
-    let mut i: usize = 0;
-    while i < MOST_LANES {
+    for i in 0..MOST_LANES {
         print_flag(i, was[i], is[i]);
-        i += 1;
     }
 }
 

@@ -2,7 +2,7 @@
 ghost use Rattle.std.specs.Prelude.{◌≤◌, length};
 
 // A byte of two digits and the index past it; that index is 0 where there is no byte.
-#[derive(Drop)]
+#[derive(Clone, Copy)]
 pub struct Pair {
     pub value: u8,
     pub next: usize,
@@ -11,16 +11,15 @@ pub struct Pair {
 // The index of the first such byte from an index on, or the length.
 pub fn find(text: &[u8], byte: u8, from: usize) -> usize
     requires { from ≤ length text.now }
-    ensures { (from ≤ result) × (result ≤ length text.now) }
+    ensures low { from ≤ result }
+    ensures high { result ≤ length text.now }
 {
-    let mut i = from;
-    while i < text.len() {
+    for i in from..text.len() {
         if text[i] == byte {
             return i;
         }
-        i += 1;
     }
-    i
+    text.len()
 }
 
 // The value of a hexadecimal digit in upper case, or 16.
@@ -70,15 +69,13 @@ fn pair_at(text: &[u8], at: usize) -> Pair {
 // Reads bytes from an index on, and answers how many there are.
 pub fn read_bytes(text: &[u8], from: usize, out: &mut [u8; 64]) -> usize {
     let mut at = from;
-    let mut n: usize = 0;
-    while n < 64 {
+    for n in 0..64 {
         let pair = pair_at(text, at);
         if pair.next == 0 {
             return n;
         }
         out[n] = pair.value;
         at = pair.next;
-        n += 1;
     }
-    n
+    64
 }

@@ -1,4 +1,6 @@
 // Runs the cases of stdin on the entries of the crates `calls` and `event_calls`; stdout has document 01's answers.
+#![tactic(auto)]
+
 mod answers;
 mod book;
 mod differences;

@@ -4,7 +4,7 @@ use line::{Lane, Line, Phase, Purpose};
 use view::{Block, View};
 
 // A phase in numbers: which of the seven it is, and what it carries.
-#[derive(Drop)]
+#[derive(Clone, Copy)]
 struct Parts {
     word: u8,
     purpose: u8,
@@ -60,32 +60,27 @@ pub fn same_lane(a: Lane, b: Lane) -> bool {
 }
 
 fn same_lanes(a: [Lane; MOST_LANES], b: [Lane; MOST_LANES]) -> bool {
-    let mut i: usize = 0;
-    while i < MOST_LANES {
+    for i in 0..MOST_LANES {
         let x = a[i];
         let y = b[i];
         if !same_lane(x, y) {
             return false;
         }
-        i += 1;
     }
     true
 }
 
 fn same_flags(a: [u8; MOST_LANES], b: [u8; MOST_LANES]) -> bool {
-    let mut i: usize = 0;
-    while i < MOST_LANES {
+    for i in 0..MOST_LANES {
         if a[i] != b[i] {
             return false;
         }
-        i += 1;
     }
     true
 }
 
 fn same_blocks(a: [Block; 8], b: [Block; 8]) -> bool {
-    let mut i: usize = 0;
-    while i < 8 {
+    for i in 0..8 {
         let x = a[i];
         let y = b[i];
         if x.start != y.start {
@@ -94,7 +89,6 @@ fn same_blocks(a: [Block; 8], b: [Block; 8]) -> bool {
         if x.length != y.length {
             return false;
         }
-        i += 1;
     }
     true
 }

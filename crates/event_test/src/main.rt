@@ -1,4 +1,6 @@
 // Writes events of each kind, prints their bytes, reads them back and prints the fields; stdout has document 01's answers.
+#![tactic(auto)]
+
 use event::{Blocks, Cursor, Event, Reading, Writing};
 use view::{Block, Place};
 
@@ -37,10 +39,8 @@ fn print_hex(name: &[u8], value: u64, width: usize) {
 
 // Two hexadecimal digits for each byte.
 fn print_digits(bytes: &[u8]) {
-    let mut i: usize = 0;
-    while i < bytes.len() {
-        io::print_hex(1, wide8(bytes[i]), 2);
-        i += 1;
+    for byte in bytes {
+        io::print_hex(1, wide8(*byte), 2);
     }
 }
 
@@ -54,10 +54,7 @@ fn print_bytes(name: &[u8], bytes: &[u8]) {
 
 // The size of an i32 whatever its sign: the least one has no negation of its type.
 fn magnitude(z: i32) -> u64 {
-    if z < 0 {
-        return ((-1 - z) as u64) + 1;
-    }
-    z as u64
+    u64::from(z.unsigned_abs())
 }
 
 fn print_offset(offset: i32) {

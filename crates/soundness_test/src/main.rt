@@ -1,4 +1,6 @@
 // Lines that break one rule of a sound line each, and sound lines at the edges, tested by `is_sound`.
+#![tactic(auto)]
+
 ghost use Rattle.std.specs.Prelude.{◌<◌};
 ghost use Rattle.limits.specs.Limits.{most_lanes};
 

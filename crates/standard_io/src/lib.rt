@@ -1,131 +1,222 @@
 // Input and output of a program: a file read to its end, text written whole, and a failure told apart from an end.
 // A call that a signal interrupted, or that found the file not ready, is made again.
-ghost use Rattle.std.specs.Prelude.{true, ◌≡◌, length};
-ghost use Rattle.standard_io.specs.Input.{within};
+#![tactic(auto)]
 
-// What was read: so many bytes, up to the input's end or the buffer's; or a read failed, and errno says why.
+ghost use Rattle.std.specs.Prelude.{true, ◌≡◌, ◌≤◌, length, OnOk, OnErr};
+ghost use Rattle.std.specs.Io.KnownBytes.{Appends, Keeps};
+ghost use Rattle.standard_io.specs.Input.{within, Reads};
+ghost use Rattle.standard_io.specs.Output.{AppendsSome};
+
+use std::env::{Env, FillError};
+use std::fmt::Display;
+use std::fs::{File, Files};
+use std::io::{Error, ErrorKind, Read, Write};
+use std::time::{Clock, Duration};
+use std::{io, thread};
+
+// What was read: so many bytes, up to the input's end or the buffer's; or a read failed, and the error says why.
 #[derive(Drop)]
 pub enum Input {
     Length(usize),
-    Failed,
+    Failed(Error),
 }
 
 // How often a call is made again at most: two years of waiting, since a loop must end.
 const MOST_TRIES: u64 = 68719476736;
 
-// Waits for a thousandth of a second, or until a signal comes.
-fn pause() {
-    let asked = libc::types::timespec {
-        tv_sec: 0,
-        tv_nsec: 1000000,
-    };
-    let mut left = libc::types::timespec {
-        tv_sec: 0,
-        tv_nsec: 0,
-    };
-    libc::nanosleep(&asked, &mut left);
+// Waits for a thousandth of a second.
+fn pause(clock: &impl Clock) {
+    thread::sleep(clock, Duration::from_millis(1));
 }
 
 // Whether what made a call fail passes: a signal that interrupted it, or a file that is not ready, for which this waits.
-// Errno stays as the call left it where it is neither.
-fn is_passing() -> bool {
-    let error = os::errno();
-    if error == libc::EAGAIN {
-        pause();
-        return true;
+fn is_passing(clock: &impl Clock, error: &Error) -> bool {
+    match error.kind() {
+        ErrorKind::WouldBlock => {
+            pause(clock);
+            true
+        }
+        ErrorKind::Interrupted => true,
+        _ => false,
     }
-    error == libc::EINTR
+}
+
+// The bytes of stack that the text of Linux's /proc/self/limits allows; none where it has no number for them.
+fn limit_in(text: &str) -> Option<u64> {
+    let line = text
+        .lines()
+        .find_map(|line| line.strip_prefix("Max stack size"))?;
+    line.split_whitespace().next()?.parse::<u64>().ok()
+}
+
+// The same of an open file, read from its start.
+fn limit_of<C: Clock, R: Read>(clock: &C, file: &mut R) -> Option<u64> {
+    let mut space = [0; 4096];
+    let input = read_file(clock, file, &mut space);
+    let Input::Length(count) = input else {
+        return None;
+    };
+    let text = str::from_utf8(&space[..count]).ok()?;
+    limit_in(text)
 }
 
 // The bytes that the stack may have by the process's limit: the greatest number where there is none, or it could not be told.
-fn stack_limit() -> u64 {
-    let mut limit = libc::types::rlimit {
-        rlim_cur: 18446744073709551615,
-        rlim_max: 0,
-    };
-    libc::getrlimit(libc::RLIMIT_STACK, &mut limit);
-    limit.rlim_cur
+fn stack_limit<R: Files + Clock>(rt: &R) -> u64 {
+    match File::open(rt, "/proc/self/limits") {
+        Ok(mut file) => limit_of(rt, &mut file).unwrap_or(u64::MAX),
+        Err(_) => u64::MAX,
+    }
 }
 
-// Whether the process may have a stack of so many KiB; where not, a line on standard error says what a program of this name needs.
-pub fn has_stack(name: &[u8], needed: u64) -> bool {
-    let limit = stack_limit() / 1024;
+// Puts the text of a value at the start of a buffer, as much as it has room for, and answers how many bytes those are.
+fn show<D: Display + Drop>(value: D, space: &mut [u8]) -> usize
+    ensures { result ≤ length space.new }
+{
+    let most = space.len();
+    let mut rest: &mut [u8] = &mut *space;
+    let _ = write!(rest, "{value}");
+    most - rest.len().min(most)
+}
+
+// What `has_stack` says where the stack is too small.
+fn write_needed<C: Clock, W: Write>(
+    clock: &C,
+    messages: &mut W,
+    name: &[u8],
+    needed: u64,
+    limit: u64,
+) -> io::Result<()> {
+    let mut space = [0; 160];
+    let said = format_args!(
+        ": needs a stack of {needed} KiB, has {limit} KiB: ulimit -s {needed}\n"
+    );
+    let length = show(said, &mut space);
+    write_text(clock, messages, name)?;
+    write_text(clock, messages, &space[..length])
+}
+
+// Whether the process may have a stack of so many KiB; where not, a line to the messages says what a program of this name needs.
+pub fn has_stack<R: Files + Clock, W: Write>(
+    rt: &R,
+    messages: &mut W,
+    name: &[u8],
+    needed: u64,
+) -> bool
+    ensures { result ≡ true → Keeps (W.contents messages.old) (W.contents messages.new) }
+{
+    let limit = stack_limit(rt) / 1024;
     if needed <= limit {
         return true;
     }
-    write_text(libc::STDERR_FILENO, name);
-    write_text(libc::STDERR_FILENO, b": needs a stack of ");
-    io::print_decimal(libc::STDERR_FILENO, needed);
-    write_text(libc::STDERR_FILENO, b" KiB, has ");
-    io::print_decimal(libc::STDERR_FILENO, limit);
-    write_text(libc::STDERR_FILENO, b" KiB: ulimit -s ");
-    io::print_decimal(libc::STDERR_FILENO, needed);
-    write_text(libc::STDERR_FILENO, b"\n");
+    let _ = write_needed(rt, messages, name, needed, limit);
     false
 }
 
 // Reads an open file to its end, or as much of it as the buffer holds.
-pub fn read_file(file: i32, space: &mut [u8]) -> Input
-    ensures { within result (length space.new) ≡ true }
+pub fn read_file<C: Clock, R: Read>(clock: &C, file: &mut R, space: &mut [u8]) -> Input
+    ensures in_bounds { within result (length space.new) ≡ true }
+    ensures bytes { Reads (R.remaining file.old) (R.remaining file.new) result space.new }
 {
     let mut done: usize = 0;
     let mut tries = MOST_TRIES;
     while done < space.len() {
-        let got = libc::read(file, &mut space[done..]);
-        if got < 0 {
-            if tries == 0 {
-                return Input::Failed;
+        match file.read(&mut space[done..]) {
+            Ok(0) => return Input::Length(done),
+            Ok(more) => done += more,
+            Err(error) => {
+                if tries == 0 {
+                    return Input::Failed(error);
+                }
+                if !is_passing(clock, &error) {
+                    return Input::Failed(error);
+                }
+                tries -= 1;
             }
-            if !is_passing() {
-                return Input::Failed;
-            }
-            tries -= 1;
-            continue;
         }
-        let more = io::count(got, space);
-        if more == 0 {
-            return Input::Length(done);
-        }
-        done += more;
     }
     Input::Length(done)
 }
 
 // Reads standard input to its end, or as much of it as the buffer holds.
-pub fn read_input(space: &mut [u8]) -> Input
+pub fn read_input<R: io::Input + Clock>(rt: &R, space: &mut [u8]) -> Input
     ensures { within result (length space.new) ≡ true }
 {
-    read_file(libc::STDIN_FILENO, space)
+    let mut file = rt.reader();
+    read_file(rt, &mut file, space)
 }
 
-// Writes a whole text; false where a write failed, and errno says why. Some of the text may have been written then.
-pub fn write_text(file: i32, text: &[u8]) -> bool {
+// Writes a whole text, or fails. Some of the text may have been written then.
+pub fn write_text<C: Clock, W: Write>(clock: &C, file: &mut W, text: &[u8]) -> io::Result<()>
+    ensures ok { OnOk result (Appends (W.contents file.old) (W.contents file.new) text.now) }
+    ensures err { OnErr result (AppendsSome (W.contents file.old) (W.contents file.new) text.now) }
+{
     let mut written: usize = 0;
     let mut tries = MOST_TRIES;
     while written < text.len() {
-        let put = libc::write(file, &text[written..]);
-        if put < 0 {
-            if tries == 0 {
-                return false;
+        match file.write(&text[written..]) {
+            Ok(0) => return Err(Error::from(ErrorKind::WriteZero)),
+            Ok(more) => written += more,
+            Err(error) => {
+                if tries == 0 {
+                    return Err(error);
+                }
+                if !is_passing(clock, &error) {
+                    return Err(error);
+                }
+                tries -= 1;
             }
-            if !is_passing() {
-                return false;
-            }
-            tries -= 1;
-            continue;
         }
-        let more = io::count(put, text);
-        if more == 0 {
-            return false;
-        }
-        written += more;
     }
-    true
+    Ok(())
+}
+
+// What the system says of an error: its text without the number that std puts behind it.
+fn without_number(text: &[u8]) -> &[u8] {
+    let Ok(words) = str::from_utf8(text) else {
+        return text;
+    };
+    match words.rsplit_once(" (os error ") {
+        Some((said, _)) => said.as_bytes(),
+        None => text,
+    }
+}
+
+// Writes a line to the messages: what failed, as the caller names it, a colon and what the system says of the error. A failure of that is not told.
+pub fn tell_failure<C: Clock, W: Write>(clock: &C, messages: &mut W, what: &[u8], error: &Error) {
+    let mut space = [0; 320];
+    let length = show(error, &mut space);
+    let said = without_number(&space[..length]);
+    let _ = write_failure(clock, messages, what, said);
+}
+
+fn write_failure<C: Clock, W: Write>(
+    clock: &C,
+    messages: &mut W,
+    what: &[u8],
+    said: &[u8],
+) -> io::Result<()> {
+    write_text(clock, messages, what)?;
+    write_text(clock, messages, b": ")?;
+    write_text(clock, messages, said)?;
+    write_text(clock, messages, b"\n")
+}
+
+// Whether the program has an argument at this place; its own name stands at 0.
+pub fn has_argument(env: &impl Env, place: usize) -> bool {
+    let mut space = [];
+    match env.arg(place, &mut space) {
+        Ok(_) => true,
+        Err(FillError::TooLong) => true,
+        Err(FillError::NotPresent) => false,
+    }
 }
 
 // Whether the program's first argument is this word, of at most 16 bytes.
-pub fn is_word(expected: &[u8]) -> bool {
+pub fn is_word(env: &impl Env, expected: &[u8]) -> bool {
     let mut word: [u8; 16] = [0; 16];
-    let length = os::arg(1, &mut word);
-    check::same(&word[..length], expected)
+    let length = env.arg(1, &mut word).unwrap_or(0);
+    &word[..length] == expected
 }
+
+#[cfg(test)]
+mod tests;

@@ -1,4 +1,6 @@
 // Prints what the view answers at both ends of each range, a labelled number a line; stdout has document 01's answers.
+#![tactic(auto)]
+
 use view::{Block, Place, View};
 
 // A label, a blank, the number and a line end.
