@@ -1,4 +1,6 @@
 // The functions that C and Rust programs link, on numbers and byte slices: a slice is a pointer and a length.
+#![tactic(auto)]
+
 ghost use Rattle.std.specs.Prelude.{◌≡◌};
 ghost use Rattle.embed.specs.Embedded.{LinkedMeets, LinkedRun, event_length, event_refusal, length_printed, linked_of, text_bound};
 ghost use Rattle.report.specs.Rows.{mean_of, remainder_of};
@@ -15,7 +17,7 @@ use run_text::MOST_LAST;
 pub mod single_calls;
 
 // What a run over a report handed by value answers: the length of its text as `gudlemi_run` answers it, and the report as the run leaves it.
-#[derive(Drop)]
+#[derive(Clone, Copy)]
 pub struct Linked {
     pub length: usize,
     pub report: Report,

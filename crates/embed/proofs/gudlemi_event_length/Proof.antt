@@ -7,31 +7,25 @@ use borrow.Author.Rules.{rules}
 use Rattle.embed.proofs.gudlemi_event_length.Statement.{statement}
 use Rattle.embed.proofs.gudlemi_event_length.Tie as tie
 
-sub-result : tie.Need-overflow-sub-result
+sub-result : tie.Need-overflow_sub-result
 sub-result c =
-    let told = c.before.before in
-    let r = told.before.before in
-    let a = r.before.before.args in
-    omega (arith, (reads a.sheet.now a.at _ _ (sym r.read-event.ensures ∙ told.reading.given.1)).longer)
+    let a = c.args in
+    omega (arith, (reads a.sheet.now a.at _ _ (sym c.read_event-reading.ensures ∙ c.in-Event.is)).longer)
 
-returns : tie.Need-returns
+returns : tie.Need-returns-in-Event
 returns c =
-    let told = c.before.before in
-    let r = told.before.before in
-    sym (ap (length_read r.before.before.args.at) (sym r.read-event.ensures ∙ told.reading.given.1))
+    sym (ap (length_read c.args.at) (sym c.read_event-reading.ensures ∙ c.in-Event.is))
 
-returns-2 : tie.Need-returns-2
+returns-2 : tie.Need-returns-in-End
 returns-2 c =
-    let r = c.before.before in
-    sym (ap (length_read r.before.before.args.at) (sym r.read-event.ensures ∙ c.enum_told.given.1))
+    sym (ap (length_read c.args.at) (sym c.read_event-reading.ensures ∙ c.in-End.is))
 
-returns-3 : tie.Need-returns-3
+returns-3 : tie.Need-returns-in-Refused
 returns-3 c =
-    let r = c.before.before in
-    sym (ap (length_read r.before.before.args.at) (sym r.read-event.ensures ∙ c.enum-told2.given.1))
+    sym (ap (length_read c.args.at) (sym c.read_event-reading.ensures ∙ c.in-Refused.is))
 
-pub gudlemi-event-length-spec : {M : Type 1} → statement M
-gudlemi-event-length-spec =
+pub gudlemi_event_length_spec : {M : Type 1} → statement M
+gudlemi_event_length_spec =
     tie.close
     (tie.spec
     (λ c κs. search rules)

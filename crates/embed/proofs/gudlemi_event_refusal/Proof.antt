@@ -5,23 +5,20 @@ use borrow.Author.Rules.{rules}
 use Rattle.embed.proofs.gudlemi_event_refusal.Statement.{statement}
 use Rattle.embed.proofs.gudlemi_event_refusal.Tie as tie
 
-returns : tie.Need-returns
+returns : tie.Need-returns-in-Event
 returns c =
-    let r = c.before.before in
-    sym (ap refusal_read (sym r.read-event.ensures ∙ c.enum_told.given.1))
+    sym (ap refusal_read (sym c.read_event-reading.ensures ∙ c.in-Event.is))
 
-returns-2 : tie.Need-returns-2
+returns-2 : tie.Need-returns-in-End
 returns-2 c =
-    let r = c.before.before in
-    sym (ap refusal_read (sym r.read-event.ensures ∙ c.enum-told2.given.1))
+    sym (ap refusal_read (sym c.read_event-reading.ensures ∙ c.in-End.is))
 
-returns-3 : tie.Need-returns-3
+returns-3 : tie.Need-returns-in-Refused
 returns-3 c =
-    let r = c.before.before.before in
-    sym (ap refusal_read (sym r.read-event.ensures ∙ c.before.reading.given.1))
+    sym (ap refusal_read (sym c.read_event-reading.ensures ∙ c.in-Refused.is))
 
-pub gudlemi-event-refusal-spec : {M : Type 1} → statement M
-gudlemi-event-refusal-spec =
+pub gudlemi_event_refusal_spec : {M : Type 1} → statement M
+gudlemi_event_refusal_spec =
     tie.close
     (tie.spec
     (λ c κs. search rules)

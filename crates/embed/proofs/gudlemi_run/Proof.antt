@@ -16,12 +16,11 @@ as_empty x report sheet text r book' text' e m = subst (λ (k : Report). LinkedM
 
 returns : tie.Need-returns
 returns c =
-    let r = c.before.before.before.before in
-    let m = as_empty _ _ _ _ _ _ _ r.before.empty.ensures r.run-linked.ensures in
+    let m = as_empty _ _ _ _ _ _ _ c.empty.ensures c.run_linked-ran.ensures in
     record { answer = m.answer; book_after = m.book_after; text_after = m.text_after; fits = m.fits }
 
-pub gudlemi-run-spec : {M : Type 1} → statement M
-gudlemi-run-spec =
+pub gudlemi_run_spec : {M : Type 1} → statement M
+gudlemi_run_spec =
     tie.close
     (tie.spec
     (λ c κs. search rules)

@@ -1,6 +1,5 @@
 -- `run_linked` meets its contract: it is the run with a report from an unopened line.
 use mathlib.Core.Path.{ap, ◌∙◌}
-use Rattle.line.specs.Line.{unopened}
 use Rattle.linebook_text.proofs.Fresh.{from_unopened}
 use Rattle.embed.specs.Embedded.{length_printed}
 use borrow.Author.Rules.{rules}
@@ -9,13 +8,11 @@ use Rattle.embed.proofs.run_linked.Tie as tie
 
 returns : tie.Need-returns
 returns c =
-    let r = c.before.before.before.before.before.before in
-    let u = r.before.before.before in
-    let m = from_unopened _ _ _ _ _ _ _ _ u.unopened.ensures r.run-reported.ensures in
-    record { answer = c.length-of.ensures ∙ ap length_printed m.answer; book_after = m.book; text_after = m.text; report_after = m.report_left; fits = rw m.answer at m.fits }
+    let m = from_unopened _ _ _ _ _ _ _ _ c.unopened-line.ensures c.run_reported-ran.ensures in
+    record { answer = c.length_of-length.ensures ∙ ap length_printed m.answer; book_after = m.book; text_after = m.text; report_after = m.report_left; fits = rw m.answer at m.fits }
 
-pub run-linked-spec : {M : Type 1} → statement M
-run-linked-spec =
+pub run_linked_spec : {M : Type 1} → statement M
+run_linked_spec =
     tie.close
     (tie.spec
     (λ c κs. search rules)

@@ -14,33 +14,32 @@ use borrow.Author.Rules.{rules}
 use Rattle.embed.proofs.single_calls.gudlemi_answer_text.Statement.{statement}
 use Rattle.embed.proofs.single_calls.gudlemi_answer_text.Tie as tie
 
-an_answer : (c : tie.Else1) → is_answer c.before.before.before.before.args.answer.now ≡ true
-an_answer c = sym c.before.is-answer.ensures ∙ not-false _ c.if1.false
+an_answer : (c : tie.Else-not-is_answer) → is_answer c.args.answer.now ≡ true
+an_answer c = sym c.is_answer.ensures ∙ not-false _ c.if-not-is_answer.false-raw
 
-returns : tie.Need-returns
+returns : tie.Need-returns-then-not-is_answer
 returns c =
-    let none = sym c.before.is-answer.ensures ∙ not-true _ c.if1.true in
+    let none = sym c.is_answer.ensures ∙ not-true _ c.if-not-is_answer.true-raw in
     (rw none, rw none)
 
-answer-in-requires : tie.Need-answer-in-requires
+answer-in-requires : tie.Need-answer_in-given-requires
 answer-in-requires c κs =
-    let bytes = c.before.before.before.before.args.answer.now in
+    let bytes = c.args.answer.now in
     leb-true answer_length (length bytes) (and_left (leb answer_length (length bytes)) _ (an_answer c))
 
-returns-2 : tie.Need-returns-2
+returns-2 : tie.Need-returns
 returns-2 c =
     let print = c.before.before.before in
     let read = print.before.before in
     let tested = read.before in
-    let s = tested.before.before.before.before in
-    let text = s.args.text.now in
-    let printed = print.print-answer.ensures.0 ∙ ap (λ (a : Answer). printing_of text s.args.number a) read.answer-in.ensures in (
-      rw (an_answer tested) (c.length-of.ensures ∙ ap (λ (x : Printed). length_printed x) printed),
-      rw (an_answer tested) (print.print-answer.ensures.1 ∙ ap (λ (a : Answer). printed_to text s.args.number a) read.answer-in.ensures),
+    let text = tested.args.text.now in
+    let printed = print.print_answer-printed.ensures.0 ∙ ap (λ (a : Answer). printing_of text tested.args.number a) read.answer_in-given.ensures in (
+      rw (an_answer tested) (c.length_of.ensures ∙ ap (λ (x : Printed). length_printed x) printed),
+      rw (an_answer tested) (print.print_answer-printed.ensures.1 ∙ ap (λ (a : Answer). printed_to text tested.args.number a) read.answer_in-given.ensures),
     )
 
-pub gudlemi-answer-text-spec : {M : Type 1} → statement M
-gudlemi-answer-text-spec =
+pub gudlemi_answer_text_spec : {M : Type 1} → statement M
+gudlemi_answer_text_spec =
     tie.close
     (tie.spec
     (λ c κs. search rules)

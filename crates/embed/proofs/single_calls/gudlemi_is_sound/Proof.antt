@@ -4,14 +4,14 @@ use mathlib.Core.Path.{sym, ◌∙◌}
 use Rattle.embed.proofs.single_calls.gudlemi_is_sound.Statement.{statement}
 use Rattle.embed.proofs.single_calls.gudlemi_is_sound.Tie as tie
 
-returns : tie.Need-returns
-returns c = rw (sym c.before.is-sound.ensures ∙ c.if1.true)
+returns : tie.Need-returns-then-is_sound
+returns c = rw (sym c.is_sound.ensures ∙ c.if-is_sound.true)
 
-returns-2 : tie.Need-returns-2
-returns-2 c = rw (sym c.before.is-sound.ensures ∙ c.if1.false)
+returns-2 : tie.Need-returns
+returns-2 c = rw (sym c.is_sound.ensures ∙ c.if-is_sound.false)
 
-pub gudlemi-is-sound-spec : {M : Type 1} → statement M
-gudlemi-is-sound-spec =
+pub gudlemi_is_sound_spec : {M : Type 1} → statement M
+gudlemi_is_sound_spec =
     tie.close
     (tie.spec
     (λ c κs. search rules)
