@@ -9,6 +9,14 @@ use denote.Enum.Declared.{tag_of}
 use Rattle.event.specs.Event.{fields_of}
 use Rattle.event.specs.declared.Event.{Event}
 use Rattle.event.specs.contracts.Event.{the_type}
+use Rattle.number_text.specs.Stored.{Stored}
+use Rattle.printout.specs.Print.{words}
+use Rattle.event_text.specs.Show.{event_words}
+
+-- the words of an event are those of what it is, while its words are still unopened
+pub as_event : {e known : Event} {before after : List ℕ} {at answer : ℕ} → e ≡ known → Stored (words (event_words known)) before at after answer
+    → Stored (words (event_words e)) before at after answer
+as_event same stored = rw same stored
 
 -- all but put and view
 abbrev two_at_most : List ℕ

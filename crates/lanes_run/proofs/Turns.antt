@@ -130,7 +130,7 @@ module _ {sheet : List ℕ} {x₀ : State} {out₀ : List ℕ} {from so_far firs
       → call_event (state_of l book) e ≡ leaves r.change.answer line' book' → After line'
   on e named read P line' shaped called = record {
     going = goes_on sheet x₀ out₀ from so_far first l book out at len number G e (record { at = r.next }) read r.change.answer line' book' called shaped
-        out' r.end (answer_line_lem r.change.answer T.put P.text) (omega (arith, P.short, T.put.ends, few_digits 19 number (omega (arith, T.small)))) T.same-book T.same_out r.next refl;
+        out' r.end (answer_line_lem r.change.answer T.put P.text) (omega (arith, P.short, T.put.ends, few_digits 19 number (omega (arith, T.small)))) T.same_book T.same_out r.next refl;
     counted = lane_counted sheet x₀ waits₀ from first l book waits at number T.advanced.counted (good_state G) G.numbered e (record { at = r.next }) read r.change.answer line' book' called h.lane named;
   }
 

@@ -1,6 +1,6 @@
 -- Where there is room, what is printed is `linebook` of the sheet, whatever the lent book held.
 use Prim.Native.Nat.{ℕ, ◌≤◌}
-use mathlib.Core.Path.{◌≡◌, ap}
+use mathlib.Core.Path.{◌≡◌, refl, sym, ap, subst, ◌∙◌}
 use mathlib.Core.Bool.{Bool, true, false, cond}
 use mathlib.Core.List.{List}
 use native.Mathlib.Omega.{arith}
@@ -13,12 +13,18 @@ use Rattle.limits.specs.Limits.{most_capacity, most_sheet}
 use Rattle.printout.specs.Print.{linebook}
 use Rattle.printout.proofs.OldBytes.{linebook_any}
 use Rattle.answer_text.specs.declared.Printed.{Printed}
+use Rattle.line.specs.Line.{unopened}
+use Rattle.line.specs.declared.Line.{Line}
+use Rattle.steps.specs.Meets.{state_of}
 use Rattle.steps.specs.State.{fresh}
 use Rattle.report.proofs.Refusal.{empty_report_never_17, without_17_as_without_report}
 use Rattle.report.specs.Rows.{empty_report}
+use Rattle.report.specs.declared.Report.{Report}
 use Rattle.run_text.specs.RunText.{most_text}
-use Rattle.run.specs.Runs.{left_by_run, printed_by, text_in}
-use Rattle.linebook_text.specs.Whole.{Prints, book_of, is_too_long, sheet_printed, text_of, too_long_printed, too_long_text}
+use Rattle.run.specs.Runs.{RunMeets, left_by_run, printed_by, text_fits, text_in}
+use Rattle.run.specs.declared.Reported.{Reported}
+use Rattle.linebook_text.proofs.Fresh.{from_empty}
+use Rattle.linebook_text.specs.Whole.{Prints, SheetMeets, TooLongMeets, book_of, is_too_long, sheet_printed, text_of, too_long_printed, too_long_text}
 
 -- ---- a sheet that is not too long
 module _ (book sheet out : List ℕ) (short : is_too_long sheet ≡ false) where
@@ -44,3 +50,32 @@ prints_linebook book sheet out b h =
     let plain = without_17_as_without_report (fresh book) empty_report sheet (empty_report_never_17 (fresh book) sheet least) in
     let room : leb (most_text (length sheet)) (length out) ≡ true = le-leb (most_text (length sheet)) (length out) (omega arith) in
     record { answer = rw (plain, short, room) (ap (λ (t : List ℕ). Printed.Length (length t)) same); text = rw (plain, short, room) (ap (sets out 0) same) })
+
+short_fits : (out : List ℕ) → text_fits (too_long_printed out) (length out) ≡ true
+short_fits out =
+    by_test (ltb (length out) 15) (λ e. rw e) (λ e. rw e (le-leb 15 (length out) (ltb-false (length out) 15 e)))
+
+-- ---- what is printed of a sheet meets its contract
+pub met_long : (book sheet out : List ℕ) (r : Printed) (out-left : List ℕ) → is_too_long sheet ≡ true → TooLongMeets out r out-left → SheetMeets book sheet out r book out-left
+met_long book sheet out r out-left long m =
+    record {
+      answer = rw long m.answer;
+      book_after = rw long refl;
+      text = rw long m.text;
+      fits = subst (λ (q : Printed). text_fits q (length out) ≡ true) (sym m.answer) (short_fits out);
+      whole = λ b h. rw (m.answer, m.text) (rw long at (prints_linebook book sheet out b h));
+    }
+
+pub met_short : (book sheet out : List ℕ) (o : Reported) (book_left out-left : List ℕ) (l : Line) (report : Report) → is_too_long sheet ≡ false → l ≡ unopened → report ≡ empty_report
+    → RunMeets (state_of l book) report sheet out o book_left out-left → SheetMeets book sheet out o.printed book_left out-left
+met_short book sheet out o book_left out-left l report short e none met =
+    let m = from_empty _ _ _ _ _ _ _ _ e none met in
+    let answer = m.answer ∙ sym (not_long_printed book sheet out short) in
+    let text = m.text ∙ sym (not_long_text book sheet out short) in
+    record {
+      answer = answer;
+      book_after = m.book ∙ sym (not_long_book book sheet out short);
+      text = text;
+      fits = m.fits;
+      whole = λ b h. rw (answer, text) (prints_linebook book sheet out b h);
+    }

@@ -34,7 +34,7 @@ module _ (base : ℕ) (z : ℤ) (h : base < 4294967296) (f : SFits w32 z) where
   base_is = to_z_pos w64 (omega arith)
 
   offset_is : to_z w64 (of_z w64 (to_z w32 (of_z w32 z))) ≡ z
-  offset_is = rw (to_z-of_z f) (to_z-of_z (sfits_widen tt f))
+  offset_is = rw (to_z-of_z f) (to_z-of_z {w = w64} (sfits_widen tt f))
 
   pub offset_fits : SFits w64 (to_z w32 (of_z w32 z))
   offset_fits = rw (to_z-of_z f) (sfits_widen tt f)

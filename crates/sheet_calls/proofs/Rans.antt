@@ -4,6 +4,7 @@ use mathlib.Core.Path.{◌≡◌, refl, sym, ap, ◌∙◌, subst}
 use mathlib.Core.Bool.{true, false, false≢true}
 use mathlib.Core.List.{List, ◌∷◌}
 use lib.ListN.{drop, length}
+use native.Mathlib.Omega.{arith}
 use Rattle.tiling.specs.declared.Tiling.{Tiling}
 use Rattle.lane_tests.specs.declared.tallies.LaneCounts.{LaneCounts}
 use Rattle.event.specs.Event.{event_of, fields_in}
@@ -20,9 +21,9 @@ use Rattle.lane_calls.proofs.Refused.{refused_book}
 use Rattle.call_head.specs.Head.{lane_kind, rest_of}
 use Rattle.call_head.specs.declared.Head.{Head}
 use Rattle.call_head.proofs.Heads.{fields_there}
-use Rattle.call_head.proofs.LaneKinds.{call_of}
+use Rattle.call_head.proofs.LaneKinds.{call_of, last_kind}
 use Rattle.kind_text.specs.Put.{Put}
-use Rattle.sheet_calls.specs.Calls.{RanAt, RanBy, RanCall, RanEnter, RefusedBy, called_with, is_refusal}
+use Rattle.sheet_calls.specs.Calls.{RanAt, RanBy, RanCall, RanEnter, RanFree, RanLook, RanPut, RanRead, RanReceive, RanTake, RanWant, RanWrite, RefusedBy, called_with, is_refusal}
 use Rattle.sheet_calls.specs.declared.Called.{Called}
 
 -- `after` are the counts after it
@@ -105,3 +106,38 @@ module _ {h : Head} {sheet records flags book out book_left out-left : List ℕ}
               kept = kept;
             };
       }
+
+-- ---- the same by what each kind's function ensures
+module _ {h : Head} {sheet records flags book out out-left : List ℕ} {s : Seen} {counts : LaneCounts} {t : Tiling} {at : ℕ} {r : Called} where
+  pub by_want : h.kind ≡ 2 → missing_lane s.lanes h.lane ≡ 0 → RanWant s counts h.lane flags sheet h.to out at r out-left → RanCall h sheet s counts t records flags book out at r book out-left
+  by_want e none R = by_kind 2 e (λ z. omega (arith, z)) none (R t records book)
+
+  pub by_receive : h.kind ≡ 3 → missing_lane s.lanes h.lane ≡ 0 → h.to ≤ length sheet → RanReceive s counts h.to out at r out-left → RanCall h sheet s counts t records flags book out at r book out-left
+  by_receive e none inside R = by_kind 3 e (λ z. omega (arith, z)) none (R h.lane t records flags book sheet inside)
+
+  pub by_take : h.kind ≡ 4 → missing_lane s.lanes h.lane ≡ 0 → RanTake s counts h.lane t records flags sheet h.to out at r out-left → RanCall h sheet s counts t records flags book out at r book out-left
+  by_take e none R = by_kind 4 e (λ z. omega (arith, z)) none (R book)
+
+  pub by_write : {book_left : List ℕ} → h.kind ≡ 5 → missing_lane s.lanes h.lane ≡ 0 → RanWrite s counts t records book sheet h.to out at r book_left out-left → RanCall h sheet s counts t records flags book out at r book_left out-left
+  by_write e none R = by_kind 5 e (λ z. omega (arith, z)) none (R h.lane flags)
+
+  pub by_read : h.kind ≡ 6 → missing_lane s.lanes h.lane ≡ 0 → h.to ≤ length sheet → RanRead s counts t records book h.to out at r out-left → RanCall h sheet s counts t records flags book out at r book out-left
+  by_read e none inside R = by_kind 6 e (λ z. omega (arith, z)) none (R h.lane flags sheet inside)
+
+  pub by_put : {book_left : List ℕ} → h.kind ≡ 7 → missing_lane s.lanes h.lane ≡ 0 → RanPut s counts t records book sheet h.to out at r book_left out-left → RanCall h sheet s counts t records flags book out at r book_left out-left
+  by_put e none R = by_kind 7 e (λ z. omega (arith, z)) none (R h.lane flags)
+
+  pub by_look : h.kind ≡ 8 → missing_lane s.lanes h.lane ≡ 0 → RanLook s counts t records book sheet h.to out at r out-left → RanCall h sheet s counts t records flags book out at r book out-left
+  by_look e none R = by_kind 8 e (λ z. omega (arith, z)) none (R h.lane flags)
+
+  pub by_entered : h.kind ≡ 10 → missing_lane s.lanes h.lane ≡ 0 → RanEnter sheet h.to s counts t records out at r out-left → RanCall h sheet s counts t records flags book out at r book out-left
+  by_entered e none R = by_enter e none R refl
+
+  pub by_free : lane_kind h.kind ≡ true → (h.kind ≡ 2 → ⊥) → (h.kind ≡ 3 → ⊥) → (h.kind ≡ 4 → ⊥) → (h.kind ≡ 5 → ⊥) → (h.kind ≡ 6 → ⊥) → (h.kind ≡ 7 → ⊥) → (h.kind ≡ 8 → ⊥) → (h.kind ≡ 10 → ⊥)
+      → missing_lane s.lanes h.lane ≡ 0 → h.to ≤ length sheet → RanFree s counts h.lane flags h.to out at r out-left → RanCall h sheet s counts t records flags book out at r book out-left
+  by_free kind two three four five six seven eight ten none inside R =
+      by_kind 9 (last_kind h.kind kind two three four five six seven eight ten) (λ z. omega (arith, z)) none (R t records book sheet inside)
+
+  pub by_refused : {number next : ℕ} → lane_kind h.kind ≡ true → h.to + total (rest_of h.kind) ≤ length sheet → (number ≡ 0 → ⊥) → number ≡ missing_lane s.lanes h.lane → next ≡ h.to + total (rest_of h.kind)
+      → RefusedBy s number next out at r out-left → RanCall h sheet s counts t records flags book out at r book out-left
+  by_refused kind room some is past R = by_missing kind room (λ z. some (is ∙ z)) (refused_as is past R) refl

@@ -1,18 +1,19 @@
 -- What a call over state bytes comes to, test after test, and what meets it.
 use Prim.Native.Nat.{ℕ, ◌≤◌, ◌<◌}
-use mathlib.Core.Path.{◌≡◌, refl, ap, ◌∙◌}
-use mathlib.Core.Bool.{true, false}
+use mathlib.Core.Path.{◌≡◌}
+use mathlib.Core.Bool.{true, cond}
 use mathlib.Core.List.{List}
 use lib.ListN.{length}
 use lib.Seq.{sets}
 use borrow.Author.Tests.{le-ltb, lt-ltb}
 use Rattle.line.specs.declared.Line.{Line}
 use Rattle.steps.specs.Answer.{said_by}
-use Rattle.steps.specs.State.{Result}
-use Rattle.steps.specs.declared.Answer.{Answer}
-use Rattle.state_bytes.specs.StateBytes.{state_bytes, state_length}
+use Rattle.steps.specs.Meets.{Meets, state_of}
+use Rattle.steps.specs.Step.{call_bytes}
+use Rattle.steps.specs.declared.Outcome.{Outcome}
+use Rattle.state_bytes.specs.StateBytes.{is_state, line_in, state_bytes, state_length}
 use Rattle.answer_bytes.specs.AnswerBytes.{answer_bytes, answer_length}
-use Rattle.state_calls.specs.StateCalls.{CallMeets, Called, answer_too_short, call_state, called_by, state_too_short, status_of, step_in, untouched}
+use Rattle.state_calls.specs.StateCalls.{CallMeets, answer_too_short, call_state, called_by, state_too_short, status_of, step_in, untouched}
 
 module _ (state book : List ℕ) (kind : ℕ) (body answer : List ℕ) where
   pub short_state : length state < state_length → call_state state book kind body answer ≡ untouched state_too_short state book answer
@@ -28,25 +29,20 @@ module _ (state book : List ℕ) (kind : ℕ) (body answer : List ℕ) where
   unfolding call_state
   called_step s a = rw (le-ltb (length state) state_length s, le-ltb (length answer) answer_length a)
 
--- nothing altered
-pub meets_untouched : {called : Called} {k : ℕ} {state book answer : List ℕ} → called ≡ untouched k state book answer → CallMeets called k state book answer
-meets_untouched e = rw e (record { status_is = refl; state_is = refl; book_is = refl; answer_is = refl })
+-- past the tests: what is left, by what each function that is called ensures
+called_line : (state book : List ℕ) (kind : ℕ) (body answer : List ℕ) (line : Line) → state_length ≤ length state → answer_length ≤ length answer → is_state state ≡ true → line ≡ line_in state
+    → call_state state book kind body answer ≡ called_by state answer (call_bytes (state_of line book) kind body)
+called_line state book kind body answer line s a is read = rw read (rw is at (called_step state book kind body answer s a))
 
-module _ (state answer : List ℕ) (r : Result) {called : Called} (e : called ≡ called_by state answer r) where
-  -- a refused call
-  pub meets_refused : {status : ℕ} {given : Answer} {book left : List ℕ} → given ≡ r.answer → (said_by given).accepted ≡ false → status ≡ status_of given → book ≡ r.after.book
-      → left ≡ sets answer 0 (answer_bytes given)
-      → CallMeets called status state book left
-  meets_refused g f k b a =
-      let refused : (said_by r.answer).accepted ≡ false = rw g at f in
-      rw e (record { status_is = k ∙ ap (λ (x : Answer). status_of x) g; state_is = rw refused; book_is = b; answer_is = a ∙ ap (λ (x : Answer). sets answer 0 (answer_bytes x)) g })
-
-  -- an accepted call
-  pub meets_accepted : {given : Answer} {line : Line} {after book left : List ℕ} → given ≡ r.answer → (said_by given).accepted ≡ true → line ≡ r.after.line
-      → after ≡ sets state 0 (state_bytes line)
-      → book ≡ r.after.book
-      → left ≡ sets answer 0 (answer_bytes given)
-      → CallMeets called 0 after book left
-  meets_accepted g t l s b a =
-      let accepted : (said_by r.answer).accepted ≡ true = rw g at t in
-      rw e (record { status_is = rw accepted; state_is = rw accepted (s ∙ ap (λ (x : Line). sets state 0 (state_bytes x)) l); book_is = b; answer_is = a ∙ ap (λ (x : Answer). sets answer 0 (answer_bytes x)) g })
+pub met_stored : (state book : List ℕ) (kind : ℕ) (body answer : List ℕ) (status : ℕ) (state_left book_left answer-left : List ℕ) (o : Outcome) (line : Line)
+    → state_length ≤ length state → answer_length ≤ length answer → is_state state ≡ true → line ≡ line_in state
+    → Meets (call_bytes (state_of line book) kind body) o book_left
+    → status ≡ status_of o.answer → state_left ≡ cond (said_by o.answer).accepted (sets state 0 (state_bytes o.line)) state → answer-left ≡ sets answer 0 (answer_bytes o.answer)
+    → CallMeets (call_state state book kind body answer) status state_left book_left answer-left
+met_stored state book kind body answer status state_left book_left answer-left o line s a is read met k left told =
+    rw (called_line state book kind body answer line s a is read) (record {
+      status_is = rw met.answer at k;
+      state_is = rw (met.answer, met.line) at left;
+      book_is = met.book;
+      answer_is = rw met.answer at told;
+    })

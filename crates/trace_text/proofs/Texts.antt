@@ -1,13 +1,17 @@
 -- Texts stored one after the other, by their index: the refusals by number, the lanes.
 use Prim.Native.Nat.{ℕ, suc, ◌+◌, ◌-◌, ◌*◌, ◌≤◌, ◌<◌}
 use mathlib.Core.Path.{◌≡◌, refl, sym, ◌∙◌}
-use mathlib.Core.List.{List, [], ◌++◌, append_assoc, append-nil}
+use mathlib.Core.List.{List, [], ◌∷◌, ◌++◌, append_assoc, append-nil}
 use native.Mathlib.Nat.{mul-suc}
 use native.Mathlib.Omega.{arith}
 use lib.ListN.{length}
+use borrow.Author.Rules.{rules}
+use borrow.Author.Tests.{ne_eqb}
 use Rattle.number_text.specs.Stored.{Stored}
 use Rattle.number_text.proofs.Stores.{and_then, stored_length}
-use Rattle.trace_text.specs.Trace.{texts_from}
+use Rattle.printout.specs.Print.{decimal, words}
+use Rattle.trace_text.specs.Trace.{refused_line, texts_from}
+use Rattle.trace_text.specs.TraceLine.{refusal_words}
 
 -- the texts before index k are stored, each of at most `step` bytes, and those from k on make up the rest
 pub record SoFar (f : ℕ → List ℕ) (first total step : ℕ) (before : List ℕ) (at : ℕ) (after : List ℕ) (end k : ℕ) : Type 0 where
@@ -49,3 +53,9 @@ module _ (f : ℕ → List ℕ) (first total step : ℕ) (before : List ℕ) (at
       let none : first + total - k ≡ 0 = omega (arith, past) in
       let whole : s.text ≡ texts_from f first total = sym (append-nil s.text) ∙ rw none at s.rest in
       rw (← whole) s.stored
+
+-- a count that is not 0, and the refusal after it
+pub refused_stored : (refusal count : ℕ) {before middle after : List ℕ} {at seam end : ℕ} → 0 < count → Stored (decimal count ++ 32 ∷ []) before at middle seam → Stored (words (refusal_words refusal)) middle seam after end
+    → Stored (refused_line refusal count) before at after end
+unfolding words
+refused_stored refusal count some a b = rw (ne_eqb count 0 (λ z. omega (arith, z))) (search (and_then, rules))

@@ -103,7 +103,7 @@ mixed_lanes = ap lanes_handed (entries_after_lem (opening 3 ∷ []) mixed)
 pub from_zero_fails : Demand3 from_zero book64 ((zero_early ++ wanting 2 0 ∷ []) ++ (zero_later ++ [])) → ⊥
 unfolding block_record in_order position_of view_ok sound first_raised big_endian number_of fields_in started step_by after_by entries status lanes_in distance
 from_zero_fails D =
-    let W = D.Waits-End zero_early zero_later [] (wanting 2 0) 2 refl refl in
+    let W = D.waits_end zero_early zero_later [] (wanting 2 0) 2 refl refl in
     let h : 0 ≡ W.holder = W.one.only 0 refl in
     let near : distance 3 0 2 ≤ 3 = omega arith in
     let woken : 1 ≤ 0 = W.sent (rw (← h) near) in

@@ -8,10 +8,10 @@ use Rattle.answer_bytes.proofs.answer_in.Statement.{statement}
 use Rattle.answer_bytes.proofs.answer_in.Tie as tie
 
 returns : tie.Need-returns
-returns c = c.answer-of.ensures ∙ ap (λ (numbers : List ℕ). answer_of numbers) c.before.numbers-at.ensures
+returns c = c.answer_of.ensures ∙ ap (λ (numbers : List ℕ). answer_of numbers) c.numbers_at.ensures
 
-pub answer-in-spec : {M : Type 1} → statement M
-answer-in-spec =
+pub answer_in_spec : {M : Type 1} → statement M
+answer_in_spec =
     tie.close
     (tie.spec
     (λ c κs. search rules)

@@ -7,10 +7,10 @@ use Rattle.answer_bytes.proofs.numbers_at.Tie as tie
 returns : tie.Need-returns
 returns c =
     let s = c.before.before.before.before.before.before.before in
-    rw (c.number32.ensures.0, c.before.number64.ensures) (answer_fields s.args.bytes.now s.requires)
+    rw (c.number32.ensures.0, c.number64.ensures) (answer_fields s.args.bytes.now s.requires)
 
-pub numbers-at-spec : {M : Type 1} → statement M
-numbers-at-spec =
+pub numbers_at_spec : {M : Type 1} → statement M
+numbers_at_spec =
     tie.close
     (tie.spec
     (λ c. search rules)

@@ -20,11 +20,11 @@ returns c =
     let call1 = call2.before.before.before.before in
     let numbers = call1.before.before in
     let s = numbers.before.before in
-    (and_then (and_then (and_then (and_then (and_then (put call1.put-u8.ensures) (put call2.put-u82.ensures) refl refl) (put call3.put-u83.ensures) refl refl) (put call4.put-u84.ensures) refl refl) (put call5.put-u64.ensures) refl refl) (put call6.put-u32.ensures) refl refl).left
-    ∙ ap (λ (v : List ℕ). put_fields answer_lengths v s.args.bytes.now 0) numbers.numbers_of.ensures
+    (and_then (and_then (and_then (and_then (and_then (put call1.put_u8.ensures) (put call2.put_u8-2.ensures) refl refl) (put call3.put_u8-3.ensures) refl refl) (put call4.put_u8-4.ensures) refl refl) (put call5.put_u64.ensures) refl refl) (put call6.put_u32.ensures) refl refl).left
+    ∙ ap (λ (v : List ℕ). put_fields answer_lengths v s.args.bytes.now 0) numbers.numbers_of-n.ensures
 
-pub put-answer-spec : {M : Type 1} → statement M
-put-answer-spec =
+pub put_answer_spec : {M : Type 1} → statement M
+put_answer_spec =
     tie.close
     (tie.spec
     (λ c κs. search rules)

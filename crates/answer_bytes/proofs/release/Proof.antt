@@ -3,11 +3,11 @@ use borrow.Author.Rules.{rules}
 use Rattle.answer_bytes.proofs.release.Statement.{statement}
 use Rattle.answer_bytes.proofs.release.Tie as tie
 
-returns : tie.Need-returns
-returns c = rw c.before.wakes.given.1
+returns : tie.Need-returns-in-Lane
+returns c = rw c.in-Lane.is
 
-returns-2 : tie.Need-returns-2
-returns-2 c = rw c.before.enum_told.given.1 c.plain.ensures
+returns-2 : tie.Need-returns-in-None
+returns-2 c = rw c.in-None.is c.plain.ensures
 
 pub release_spec : {M : Type 1} → statement M
 release_spec =

@@ -9,20 +9,18 @@ use borrow.Author.Rules.{rules}
 use Rattle.answer_text.proofs.print_answer.Statement.{statement}
 use Rattle.answer_text.proofs.print_answer.Tie as tie
 
-returns : tie.Need-returns
+returns : tie.Need-returns-then-out-lt-MOST_LINE
 returns c =
-    let short = lt-ltb _ _ c.if1.true in
+    let short = lt-ltb _ _ c.if-out-lt-MOST_LINE.true in
     (rw short, rw short)
 
-returns-2 : tie.Need-returns-2
+returns-2 : tie.Need-returns
 returns-2 c =
-    let call = c.before.before in
-    let e = call.before.before in
-    let a = e.before.before.args in
-    let room = le-ltb _ _ e.if1.false in
-    let line = call.put-answer.ensures.0 in
-    let end : call.put-answer.result ≡ length (answer_line a.number a.answer) = omega (arith, line.ends) in
+    let a = c.args in
+    let room = le-ltb _ _ c.if-out-lt-MOST_LINE.false in
+    let line = c.put_answer.ensures.0 in
+    let end : c.put_answer.result ≡ length (answer_line a.number a.answer) = omega (arith, line.ends) in
     (rw room (ap Printed.Length end), rw room line.bytes)
 
-pub print-answer-spec : {M : Type 1} → statement M
-print-answer-spec = tie.close (tie.spec returns (λ c κs. search rules) (λ c. search rules) returns-2)
+pub print_answer_spec : {M : Type 1} → statement M
+print_answer_spec = tie.close (tie.spec returns (λ c κs. search rules) (λ c. search rules) returns-2)

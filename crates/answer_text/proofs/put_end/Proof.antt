@@ -10,28 +10,24 @@ use Rattle.answer_text.proofs.put_end.Statement.{statement}
 use Rattle.answer_text.proofs.put_end.Tie as tie
 
 -- the line of the two numbers as they are passed on is short enough
-short : (c : tie.After-wide322) → length (end_line_of c.before.wide32.result (record { 0 = c.wide322.result })) ≤ most_line
+short : (c : tie.After-wide32-2) → length (end_line_of c.wide32.result (record { 0 = c.wide32-2.result })) ≤ most_line
 short c =
-    let g = c.before.before.before.before.before.well-formed in
-    end_short c.before.wide32.result (record { 0 = c.wide322.result }) (rw c.before.wide32.ensures (search g)) (rw c.wide322.ensures (search g))
+    let g = c.well_formed in
+    end_short c.wide32.result (record { 0 = c.wide32-2.result }) (rw c.wide32.ensures (search g)) (rw c.wide32-2.ensures (search g))
 
-put-two-requires : tie.Need-put-two-requires
+put-two-requires : tie.Need-put_two-requires
 put-two-requires c κs =
-    let s = c.before.before.before.before.before in
-    omega (arith, s.requires, short c)
+    omega (arith, c.requires, short c)
 
 returns : tie.Need-returns
 returns c =
-    let call = c.before.before in
-    let wide = call.before in
-    let line = call.put_two.ensures in
-    (rw (wide.before.wide32.ensures, wide.wide322.ensures) at line, omega (arith, line.ends, short wide))
+    let line = c.put_two.ensures in
+    (rw (c.wide32.ensures, c.wide32-2.ensures) at line, omega (arith, line.ends, short c.before.before.before))
 
-pub put-end-spec : {M : Type 1} → statement M
-put-end-spec =
+pub put_end_spec : {M : Type 1} → statement M
+put_end_spec =
     tie.close
     (tie.spec
-    (λ c. search rules)
     (λ c κs. search rules)
     (λ c κs. search rules)
     put-two-requires

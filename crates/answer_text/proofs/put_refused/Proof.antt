@@ -4,17 +4,20 @@ use borrow.Author.Rules.{rules}
 use Rattle.answer_text.proofs.put_refused.Statement.{statement}
 use Rattle.answer_text.proofs.put_refused.Tie as tie
 
-put-counted-requires : tie.Need-put-counted-requires
+put-counted-requires : tie.Need-put_counted-requires
 unfolding answer_words
-put-counted-requires c κs = rw c.wide8.ensures c.before.before.before.before.requires
+put-counted-requires c κs = rw c.wide8.ensures c.requires
 
 returns : tie.Need-returns
 unfolding answer_words
 returns c =
-    let call = c.before.before in
-    rw call.before.wide8.ensures at call.put-counted.ensures
+    rw c.wide8.ensures at c.put_counted.ensures
 
-pub put-refused-spec : {M : Type 1} → statement M
-put-refused-spec =
+pub put_refused_spec : {M : Type 1} → statement M
+put_refused_spec =
     tie.close
-    (tie.spec (λ c. search rules) (λ c κs. search rules) put-counted-requires (λ c. search rules) returns)
+    (tie.spec
+    (λ c κs. search rules)
+    put-counted-requires
+    (λ c. search rules)
+    returns)

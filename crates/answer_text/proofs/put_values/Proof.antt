@@ -5,182 +5,147 @@ use borrow.Author.Rules.{rules}
 use Rattle.answer_text.proofs.put_values.Statement.{statement}
 use Rattle.answer_text.proofs.put_values.Tie as tie
 
-put-two-requires : tie.Need-put-two-requires
+put-two-requires : tie.Need-put_two-requires
 unfolding answer_words
 put-two-requires c κs =
-    let told = c.before.before.before.before.before in
-    rw (c.before.wide8.ensures, c.wide32.ensures) (rw told.answer.given.1 at told.before.before.before.requires)
+    rw (c.wide8.ensures, c.wide32.ensures) (rw c.in-Open.is at c.requires)
 
-put-one-requires : tie.Need-put-one-requires
+put-one-requires : tie.Need-put_one-requires
 unfolding answer_words
 put-one-requires c κs =
-    let told = c.before.before.before.before in
-    rw c.wide322.ensures (rw told.answer2.given.1 at told.before.before.before.requires)
+    rw c.wide32-in-Holds.ensures (rw c.in-Holds.is at c.requires)
 
-put-word-requires : tie.Need-put-word-requires
+put-word-requires : tie.Need-put_word-requires
 unfolding answer_words words
 put-word-requires c κs =
-    let told = c.before.before in
-    omega (arith, rw told.enum_told.given.1 at told.before.before.before.requires)
+    omega (arith, rw c.in-Waits.is at c.requires)
 
-put-region-requires : tie.Need-put-region-requires
+put-region-requires : tie.Need-put_region-requires
 unfolding answer_words
 put-region-requires c κs =
-    let told = c.before.before.before.before in
-    rw (c.before.wide323.ensures, c.wide16.ensures) (rw told.answer3.given.1 at told.before.before.before.requires)
+    rw (c.wide32-in-Region.ensures, c.wide16.ensures) (rw c.in-Region.is at c.requires)
 
-put-one-requires-2 : tie.Need-put-one-requires-2
+put-one-requires-2 : tie.Need-put_one-requires-in-Wrote
 unfolding answer_words
 put-one-requires-2 c κs =
-    let told = c.before.before.before in
-    rw told.answer4.given.1 at told.before.before.before.requires
+    rw c.in-Wrote.is at c.requires
 
-put-record-requires : tie.Need-put-record-requires
+put-record-requires : tie.Need-put_record-requires
 unfolding answer_words
 put-record-requires c κs =
-    let told = c.before.before in
-    rw told.answer5.given.1 at told.before.before.before.requires
+    rw c.in-Record.is at c.requires
 
-put-word-requires-2 : tie.Need-put-word-requires-2
+put-word-requires-2 : tie.Need-put_word-requires-in-None
 unfolding answer_words words
 put-word-requires-2 c κs =
-    let told = c.before.before in
-    omega (arith, rw told.enum-told2.given.1 at told.before.before.before.requires)
+    omega (arith, rw c.in-None.is at c.requires)
 
-put-freed-requires : tie.Need-put-freed-requires
+put-freed-requires : tie.Need-put_freed-requires
 unfolding answer_words
 put-freed-requires c κs =
-    let told = c.before.before in
-    rw told.answer6.given.1 at told.before.before.before.requires
+    rw c.in-Freed.is at c.requires
 
-put-word-requires-3 : tie.Need-put-word-requires-3
+put-word-requires-3 : tie.Need-put_word-requires-in-Gathered
 unfolding answer_words words
 put-word-requires-3 c κs =
-    let told = c.before.before in
-    omega (arith, rw told.enum-told3.given.1 at told.before.before.before.requires)
+    omega (arith, rw c.in-Gathered.is at c.requires)
 
-put-two-requires-2 : tie.Need-put-two-requires-2
+put-two-requires-2 : tie.Need-put_two-requires-in-Ordered
 unfolding answer_words
 put-two-requires-2 c κs =
-    let told = c.before.before.before.before.before in
-    rw (c.before.wide324.ensures, c.wide325.ensures) (rw told.answer7.given.1 at told.before.before.before.requires)
+    rw (c.wide32-in-Ordered.ensures, c.wide32-in-Ordered-2.ensures) (rw c.in-Ordered.is at c.requires)
 
-put-word-requires-4 : tie.Need-put-word-requires-4
+put-word-requires-4 : tie.Need-put_word-requires-in-View
 unfolding answer_words words
 put-word-requires-4 c κs =
-    let told = c.before.before in
-    omega (arith, rw told.enum-told4.given.1 at told.before.before.before.requires)
+    omega (arith, rw c.in-View.is at c.requires)
 
-put-one-requires-3 : tie.Need-put-one-requires-3
+put-one-requires-3 : tie.Need-put_one-requires-in-Seek
 unfolding answer_words
 put-one-requires-3 c κs =
-    let told = c.before.before.before.before in
-    rw c.wide326.ensures (rw told.answer8.given.1 at told.before.before.before.requires)
+    rw c.wide32-in-Seek.ensures (rw c.in-Seek.is at c.requires)
 
-put-one-requires-4 : tie.Need-put-one-requires-4
+put-one-requires-4 : tie.Need-put_one-requires-in-Refused
 unfolding answer_words
 put-one-requires-4 c κs =
-    let told = c.before.before.before.before in
-    rw c.wide82.ensures (rw told.answer9.given.1 at told.before.before.before.requires)
+    rw c.wide8-in-Refused.ensures (rw c.in-Refused.is at c.requires)
 
-returns : tie.Need-returns
+returns : tie.Need-returns-in-Open
 unfolding answer_words
 returns c =
-    let call = c.before.before in
-    let wide = call.before in
-    rw wide.before.before.before.before.before.answer.given.1 (rw (wide.before.wide8.ensures, wide.wide32.ensures) at call.put_two.ensures)
+    rw c.in-Open.is (rw (c.wide8.ensures, c.wide32.ensures) at c.put_two.ensures)
 
-returns-2 : tie.Need-returns-2
+returns-2 : tie.Need-returns-in-Holds
 unfolding answer_words
 returns-2 c =
-    let call = c.before.before in
-    let wide = call.before in
-    rw wide.before.before.before.before.answer2.given.1 (rw wide.wide322.ensures at call.put_one.ensures)
+    rw c.in-Holds.is (rw c.wide32-in-Holds.ensures at c.put_one.ensures)
 
-returns-3 : tie.Need-returns-3
+returns-3 : tie.Need-returns-in-Waits
 unfolding answer_words words
 returns-3 c =
-    let call = c.before.before in
-    rw call.before.before.before.enum_told.given.1 call.put_word.ensures
+    rw c.in-Waits.is c.put_word.ensures
 
-returns-4 : tie.Need-returns-4
+returns-4 : tie.Need-returns-in-Region
 unfolding answer_words
 returns-4 c =
-    let call = c.before.before in
-    let wide = call.before in
-    rw wide.before.before.before.before.answer3.given.1 (rw (wide.before.wide323.ensures, wide.wide16.ensures) at call.put-region.ensures)
+    rw c.in-Region.is (rw (c.wide32-in-Region.ensures, c.wide16.ensures) at c.put_region.ensures)
 
-returns-5 : tie.Need-returns-5
+returns-5 : tie.Need-returns-in-Wrote
 unfolding answer_words
 returns-5 c =
-    let call = c.before.before in
-    rw call.before.before.before.before.answer4.given.1 call.put-one2.ensures
+    rw c.in-Wrote.is c.put_one-in-Wrote.ensures
 
-returns-6 : tie.Need-returns-6
+returns-6 : tie.Need-returns-in-Record
 unfolding answer_words
 returns-6 c =
-    let call = c.before.before in
-    rw call.before.before.before.answer5.given.1 call.put_record.ensures
+    rw c.in-Record.is c.put_record.ensures
 
-returns-7 : tie.Need-returns-7
+returns-7 : tie.Need-returns-in-None
 unfolding answer_words words
 returns-7 c =
-    let call = c.before.before in
-    rw call.before.before.before.enum-told2.given.1 call.put-word2.ensures
+    rw c.in-None.is c.put_word-in-None.ensures
 
-returns-8 : tie.Need-returns-8
+returns-8 : tie.Need-returns-in-Freed
 unfolding answer_words
 returns-8 c =
-    let call = c.before.before in
-    rw call.before.before.before.answer6.given.1 call.put-freed.ensures
+    rw c.in-Freed.is c.put_freed.ensures
 
-returns-9 : tie.Need-returns-9
+returns-9 : tie.Need-returns-in-Gathered
 unfolding answer_words words
 returns-9 c =
-    let call = c.before.before in
-    rw call.before.before.before.enum-told3.given.1 call.put-word3.ensures
+    rw c.in-Gathered.is c.put_word-in-Gathered.ensures
 
-returns-10 : tie.Need-returns-10
+returns-10 : tie.Need-returns-in-Ordered
 unfolding answer_words
 returns-10 c =
-    let call = c.before.before in
-    let wide = call.before in
-    rw wide.before.before.before.before.before.answer7.given.1 (rw (wide.before.wide324.ensures, wide.wide325.ensures) at call.put-two2.ensures)
+    rw c.in-Ordered.is (rw (c.wide32-in-Ordered.ensures, c.wide32-in-Ordered-2.ensures) at c.put_two-in-Ordered.ensures)
 
-returns-11 : tie.Need-returns-11
+returns-11 : tie.Need-returns-in-View
 unfolding answer_words words
 returns-11 c =
-    let call = c.before.before in
-    rw call.before.before.before.enum-told4.given.1 call.put-word4.ensures
+    rw c.in-View.is c.put_word-in-View.ensures
 
-returns-12 : tie.Need-returns-12
+returns-12 : tie.Need-returns-in-Seek
 unfolding answer_words
 returns-12 c =
-    let call = c.before.before in
-    let wide = call.before in
-    rw wide.before.before.before.before.answer8.given.1 (rw wide.wide326.ensures at call.put-one3.ensures)
+    rw c.in-Seek.is (rw c.wide32-in-Seek.ensures at c.put_one-in-Seek.ensures)
 
-returns-13 : tie.Need-returns-13
+returns-13 : tie.Need-returns-in-Refused
 unfolding answer_words
 returns-13 c =
-    let call = c.before.before in
-    let wide = call.before in
-    rw wide.before.before.before.before.answer9.given.1 (rw wide.wide82.ensures at call.put-one4.ensures)
+    rw c.in-Refused.is (rw c.wide8-in-Refused.ensures at c.put_one-in-Refused.ensures)
 
-pub put-values-spec : {M : Type 1} → statement M
-put-values-spec =
+pub put_values_spec : {M : Type 1} → statement M
+put_values_spec =
     tie.close
     (tie.spec
-    (λ c. search rules)
     (λ c. search rules)
     (λ c κs. search rules)
     (λ c κs. search rules)
     put-two-requires
     (λ c. search rules)
-    (λ c. search rules)
     (λ c κs. search rules)
     put-one-requires
-    (λ c. search rules)
     (λ c. search rules)
     put-word-requires
     (λ c. search rules)
@@ -188,31 +153,24 @@ put-values-spec =
     (λ c κs. search rules)
     put-region-requires
     (λ c. search rules)
-    (λ c. search rules)
     put-one-requires-2
     (λ c. search rules)
     put-record-requires
-    (λ c. search rules)
     (λ c. search rules)
     put-word-requires-2
     (λ c. search rules)
     put-freed-requires
     (λ c. search rules)
-    (λ c. search rules)
     put-word-requires-3
-    (λ c. search rules)
     (λ c. search rules)
     (λ c κs. search rules)
     (λ c κs. search rules)
     put-two-requires-2
     (λ c. search rules)
-    (λ c. search rules)
     put-word-requires-4
-    (λ c. search rules)
     (λ c. search rules)
     (λ c κs. search rules)
     put-one-requires-3
-    (λ c. search rules)
     (λ c. search rules)
     (λ c κs. search rules)
     put-one-requires-4

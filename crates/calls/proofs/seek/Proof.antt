@@ -6,8 +6,7 @@ use Rattle.calls.proofs.seek.Tie as tie
 
 returns : tie.Need-returns
 returns c =
-    let called = c.before.before in
-    rw (to_z-of_z called.before.before.before.ranges.offset) at called.call-event.ensures
+    rw (to_z-of_z c.ranges.offset) at c.call_event.ensures
 
-pub seek-spec : {M : Type 1} → statement M
-seek-spec = tie.close (tie.spec (λ c κs. search rules) (λ c. search rules) returns)
+pub seek_spec : {M : Type 1} → statement M
+seek_spec = tie.close (tie.spec (λ c κs. search rules) (λ c. search rules) returns)

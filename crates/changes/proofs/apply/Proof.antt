@@ -7,27 +7,27 @@ use Rattle.changes.proofs.apply.Statement.{statement}
 use Rattle.changes.proofs.apply.Tie as tie
 
 -- the lane that is woken is one of the array's
-woken_below : (c : tie.After-known-told) → c.before.wakes.given.0.0 < most_lanes
+woken_below : (c : tie.In-Lane) → c.in-Lane.number < most_lanes
 woken_below c =
-    let start = c.before.before.before.before.before in
-    ltb-true _ _ (rw c.before.wakes.given.1 at start.requires)
+    let start = c in
+    ltb-true _ _ (rw c.in-Lane.is at start.requires)
 
-element-copy-out-woken : tie.Need-element-copy-out-woken
+element-copy-out-woken : tie.Need-bounds-next-w
 element-copy-out-woken c = woken_below c
 
-element-set-from-next-2 : tie.Need-element-set-from-next-2
+element-set-from-next-2 : tie.Need-bounds-next-w-in-Lane
 element-set-from-next-2 c = woken_below c.before.before
 
-returns : tie.Need-returns
-returns c = rw (c.before.before.before.entry-of.ensures.0, c.enum_told.given.1)
+returns : tie.Need-returns-in-None
+returns c = rw (c.entry_of-i.ensures.0, c.in-None.is)
 
-returns-2 : tie.Need-returns-2
+returns-2 : tie.Need-returns-in-Lane
 returns-2 c =
-    let w = c.before.before.before in
-    rw (c.wake-with.ensures, w.before.before.before.entry-of.ensures.0, w.wakes.given.1)
+    let w = c in
+    rw (c.wake_with.ensures, w.entry_of-i.ensures.0, w.in-Lane.is)
 
-pub apply-spec : {M : Type 1} → statement M
-apply-spec =
+pub apply_spec : {M : Type 1} → statement M
+apply_spec =
     tie.close
     (tie.spec
     (λ c κs. search rules)

@@ -4,10 +4,10 @@ use Rattle.changes.proofs.see.Statement.{statement}
 use Rattle.changes.proofs.see.Tie as tie
 
 returns : tie.Need-returns
-returns c = rw (c.before.before.before.before.before.entry-of.ensures.0, c.any-gathered.ensures)
+returns c = rw (c.entry_of-i.ensures.0, c.any_gathered.ensures)
 
-pub see-spec : {M : Type 1} → statement M
-see-spec =
+pub see_spec : {M : Type 1} → statement M
+see_spec =
     tie.close
     (tie.spec
     (λ c κs. search rules)

@@ -5,44 +5,44 @@ use borrow.Author.Rules.{rules}
 use Rattle.decode.proofs.read_body.Statement.{statement}
 use Rattle.decode.proofs.read_body.Tie as tie
 
-returns : tie.Need-returns
-returns c = rw c.before.match.keys1 c.read-open.ensures
+returns : tie.Need-returns-in-1
+returns c = rw c.in-1.is c.read_open.ensures
 
-returns-2 : tie.Need-returns-2
-returns-2 c = rw c.before.match.keys2 c.read-want.ensures
+returns-2 : tie.Need-returns-in-2
+returns-2 c = rw c.in-2.is c.read_want.ensures
 
-returns-3 : tie.Need-returns-3
-returns-3 c = rw c.before.match.keys3 c.read-receive.ensures
+returns-3 : tie.Need-returns-in-3
+returns-3 c = rw c.in-3.is c.read_receive.ensures
 
-returns-4 : tie.Need-returns-4
-returns-4 c = rw c.before.match.keys4 c.read_take.ensures
+returns-4 : tie.Need-returns-in-4
+returns-4 c = rw c.in-4.is c.read_take.ensures
 
-returns-5 : tie.Need-returns-5
-returns-5 c = rw c.before.match.keys5 c.read-write.ensures
+returns-5 : tie.Need-returns-in-5
+returns-5 c = rw c.in-5.is c.read_write.ensures
 
-returns-6 : tie.Need-returns-6
-returns-6 c = rw c.before.match.keys6 c.read-read.ensures
+returns-6 : tie.Need-returns-in-6
+returns-6 c = rw c.in-6.is c.read_read.ensures
 
-returns-7 : tie.Need-returns-7
-returns-7 c = rw c.before.match.keys7 c.read-put.ensures
+returns-7 : tie.Need-returns-in-7
+returns-7 c = rw c.in-7.is c.read_put.ensures
 
-returns-8 : tie.Need-returns-8
-returns-8 c = rw c.before.match.keys8 c.read-look.ensures
+returns-8 : tie.Need-returns-in-8
+returns-8 c = rw c.in-8.is c.read_look.ensures
 
-returns-9 : tie.Need-returns-9
-returns-9 c = rw c.before.match.keys9 c.read-free.ensures
+returns-9 : tie.Need-returns-in-9
+returns-9 c = rw c.in-9.is c.read_free.ensures
 
-returns-10 : tie.Need-returns-10
-returns-10 c = rw c.before.match.keys10 c.read-enter.ensures
+returns-10 : tie.Need-returns-in-10
+returns-10 c = rw c.in-10.is c.read_enter.ensures
 
-returns-11 : tie.Need-returns-11
-returns-11 c = rw c.before.match.keys11 c.read_view.ensures
+returns-11 : tie.Need-returns-in-11
+returns-11 c = rw c.in-11.is c.read_view.ensures
 
-returns-12 : tie.Need-returns-12
-returns-12 c = rw c.before.match.keys12 c.read-seek.ensures
+returns-12 : tie.Need-returns-in-12
+returns-12 c = rw c.in-12.is c.read_seek.ensures
 
-returns-13 : tie.Need-returns-13
-returns-13 c = let others = c.match.rest in
+returns-13 : tie.Need-returns-in_default
+returns-13 c = let others = c.in_default.in_default-own.rest in
     let but-11 = others.0 in
     let but-10 = but-11.0 in
     let but-9 = but-10.0 in
@@ -56,8 +56,8 @@ returns-13 c = let others = c.match.rest in
     let but-1 = but-2.0 in
     body_unlisted _ _ _ (none_listed _ (but-1.1 ▹ but-2.1 ▹ but-3.1 ▹ but-4.1 ▹ but-5.1 ▹ but-6.1 ▹ but-7.1 ▹ but-8.1 ▹ but-9.1 ▹ but-10.1 ▹ but-11.1 ▹ others.1 ▹ listed))
 
-pub read-body-spec : {M : Type 1} → statement M
-read-body-spec =
+pub read_body_spec : {M : Type 1} → statement M
+read_body_spec =
     tie.close
     (tie.spec
     (λ c κs. search rules)

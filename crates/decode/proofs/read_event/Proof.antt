@@ -6,15 +6,15 @@ use borrow.Author.Rules.{rules}
 use Rattle.decode.proofs.read_event.Statement.{statement}
 use Rattle.decode.proofs.read_event.Tie as tie
 
-returns : tie.Need-returns
+returns : tie.Need-returns-then-sheet-at
 unfolding read_at
-returns c = rw (le-leb _ _ c.if1.true)
+returns c = rw (le-leb _ _ c.if-sheet-at.true)
 
-returns-2 : tie.Need-returns-2
+returns-2 : tie.Need-returns
 unfolding read_at body_at
-returns-2 c = rw (lt-leb _ _ c.before.before.if1.false) c.read-body.ensures
+returns-2 c = rw (lt-leb _ _ c.if-sheet-at.false) c.read_body.ensures
 
-pub read-event-spec : {M : Type 1} → statement M
-read-event-spec =
+pub read_event_spec : {M : Type 1} → statement M
+read_event_spec =
     tie.close
     (tie.spec returns (λ c. search rules) (λ c. search rules) (λ c κs. search rules) returns-2)

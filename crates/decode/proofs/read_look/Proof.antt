@@ -9,22 +9,19 @@ use borrow.Author.Rules.{rules}
 use Rattle.decode.proofs.read_look.Statement.{statement}
 use Rattle.decode.proofs.read_look.Tie as tie
 
-returns : tie.Need-returns
-returns c = body_cut 8 refl (lit< tt) (cut_first (4 ∷ []) (missed (sym c.before.before.read-u8.ensures ∙ ap said8 c.enum_told.given.1)))
+returns : tie.Need-returns-in_default
+returns c = body_cut 8 refl (lit< tt) (cut_first (4 ∷ []) (missed (sym c.read_u8.ensures ∙ ap said8 c.in_default.is)))
 
-returns-2 : tie.Need-returns-2
+returns-2 : tie.Need-returns-in_default-read_u32
 returns-2 c =
-    let lane = c.before.before.before.before in
-    body_cut 8 refl (lit< tt) (cut_later (got (sym lane.before.before.read-u8.ensures ∙ ap said8 lane.lane.given.1)) (missed (sym c.before.before.read_u32.ensures ∙ ap said32 c.enum-told2.given.1)))
+    body_cut 8 refl (lit< tt) (cut_later (got (sym c.read_u8.ensures ∙ ap said8 c.in-Value.is)) (missed (sym c.read_u32.ensures ∙ ap said32 c.in_default-read_u32.is)))
 
-returns-3 : tie.Need-returns-3
+returns-3 : tie.Need-returns
 returns-3 c =
-    let place = c.before in
-    let lane = place.before.before.before.before in
-    body_read 8 refl (and_then (got (sym lane.before.before.read-u8.ensures ∙ ap said8 lane.lane.given.1)) (got (sym place.before.before.read_u32.ensures ∙ ap said32 place.place.given.1)))
+    body_read 8 refl (and_then (got (sym c.read_u8.ensures ∙ ap said8 c.in-Value.is)) (got (sym c.read_u32.ensures ∙ ap said32 c.in-Value-read_u32.is)))
 
-pub read-look-spec : {M : Type 1} → statement M
-read-look-spec =
+pub read_look_spec : {M : Type 1} → statement M
+read_look_spec =
     tie.close
     (tie.spec
     (λ c κs. search rules)

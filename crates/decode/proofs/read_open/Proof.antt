@@ -9,22 +9,19 @@ use borrow.Author.Rules.{rules}
 use Rattle.decode.proofs.read_open.Statement.{statement}
 use Rattle.decode.proofs.read_open.Tie as tie
 
-returns : tie.Need-returns
-returns c = body_cut 1 refl (lit< tt) (cut_first (4 ∷ []) (missed (sym c.before.before.read-u8.ensures ∙ ap said8 c.enum_told.given.1)))
+returns : tie.Need-returns-in_default
+returns c = body_cut 1 refl (lit< tt) (cut_first (4 ∷ []) (missed (sym c.read_u8.ensures ∙ ap said8 c.in_default.is)))
 
-returns-2 : tie.Need-returns-2
+returns-2 : tie.Need-returns-in_default-read_u32
 returns-2 c =
-    let lanes = c.before.before.before.before in
-    body_cut 1 refl (lit< tt) (cut_later (got (sym lanes.before.before.read-u8.ensures ∙ ap said8 lanes.lanes.given.1)) (missed (sym c.before.before.read_u32.ensures ∙ ap said32 c.enum-told2.given.1)))
+    body_cut 1 refl (lit< tt) (cut_later (got (sym c.read_u8.ensures ∙ ap said8 c.in-Value.is)) (missed (sym c.read_u32.ensures ∙ ap said32 c.in_default-read_u32.is)))
 
-returns-3 : tie.Need-returns-3
+returns-3 : tie.Need-returns
 returns-3 c =
-    let capacity = c.before in
-    let lanes = capacity.before.before.before.before in
-    body_read 1 refl (and_then (got (sym lanes.before.before.read-u8.ensures ∙ ap said8 lanes.lanes.given.1)) (got (sym capacity.before.before.read_u32.ensures ∙ ap said32 capacity.capacity.given.1)))
+    body_read 1 refl (and_then (got (sym c.read_u8.ensures ∙ ap said8 c.in-Value.is)) (got (sym c.read_u32.ensures ∙ ap said32 c.in-Value-read_u32.is)))
 
-pub read-open-spec : {M : Type 1} → statement M
-read-open-spec =
+pub read_open_spec : {M : Type 1} → statement M
+read_open_spec =
     tie.close
     (tie.spec
     (λ c κs. search rules)

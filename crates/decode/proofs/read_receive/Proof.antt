@@ -8,14 +8,13 @@ use borrow.Author.Rules.{rules}
 use Rattle.decode.proofs.read_receive.Statement.{statement}
 use Rattle.decode.proofs.read_receive.Tie as tie
 
-returns : tie.Need-returns
-returns c = body_cut 3 refl (lit< tt) (missed (sym c.before.before.read-u8.ensures ∙ ap said8 c.enum_told.given.1))
+returns : tie.Need-returns-in_default
+returns c = body_cut 3 refl (lit< tt) (missed (sym c.read_u8.ensures ∙ ap said8 c.in_default.is))
 
-returns-2 : tie.Need-returns-2
+returns-2 : tie.Need-returns
 returns-2 c =
-    let lane = c.before in
-    body_read 3 refl (got (sym lane.before.before.read-u8.ensures ∙ ap said8 lane.lane.given.1))
+    body_read 3 refl (got (sym c.read_u8.ensures ∙ ap said8 c.in-Value.is))
 
-pub read-receive-spec : {M : Type 1} → statement M
-read-receive-spec =
+pub read_receive_spec : {M : Type 1} → statement M
+read_receive_spec =
     tie.close (tie.spec (λ c κs. search rules) (λ c. search rules) (λ c. search rules) returns returns-2)

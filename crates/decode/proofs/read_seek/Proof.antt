@@ -11,22 +11,19 @@ use borrow.Author.Rules.{rules}
 use Rattle.decode.proofs.read_seek.Statement.{statement}
 use Rattle.decode.proofs.read_seek.Tie as tie
 
-returns : tie.Need-returns
-returns c = body_cut 12 refl (lit< tt) (cut_first (4 ∷ []) (missed (sym c.before.before.read-u8.ensures ∙ ap said8 c.enum_told.given.1)))
+returns : tie.Need-returns-in_default
+returns c = body_cut 12 refl (lit< tt) (cut_first (4 ∷ []) (missed (sym c.read_u8.ensures ∙ ap said8 c.in_default.is)))
 
-returns-2 : tie.Need-returns-2
+returns-2 : tie.Need-returns-in_default-read_u32
 returns-2 c =
-    let whence = c.before.before.before.before in
-    body_cut 12 refl (lit< tt) (cut_later (got (sym whence.before.before.read-u8.ensures ∙ ap said8 whence.whence.given.1)) (missed (sym c.before.before.read_u32.ensures ∙ ap said32 c.enum-told2.given.1)))
+    body_cut 12 refl (lit< tt) (cut_later (got (sym c.read_u8.ensures ∙ ap said8 c.in-Value.is)) (missed (sym c.read_u32.ensures ∙ ap said32 c.in_default-read_u32.is)))
 
-returns-3 : tie.Need-returns-3
+returns-3 : tie.Need-returns
 returns-3 c =
-    let offset = c.before.before in
-    let whence = offset.before.before.before.before in
-    rw (c.Signed-of.ensures, to_z-of_z (signed_fits offset.offset.given.0.0)) (body_read 12 refl (and_then (got (sym whence.before.before.read-u8.ensures ∙ ap said8 whence.whence.given.1)) (got (sym offset.before.before.read_u32.ensures ∙ ap said32 offset.offset.given.1))))
+    rw (c.signed_of.ensures, to_z-of_z (signed_fits c.in-Value-read_u32.offset)) (body_read 12 refl (and_then (got (sym c.read_u8.ensures ∙ ap said8 c.in-Value.is)) (got (sym c.read_u32.ensures ∙ ap said32 c.in-Value-read_u32.is))))
 
-pub read-seek-spec : {M : Type 1} → statement M
-read-seek-spec =
+pub read_seek_spec : {M : Type 1} → statement M
+read_seek_spec =
     tie.close
     (tie.spec
     (λ c κs. search rules)

@@ -9,22 +9,19 @@ use borrow.Author.Rules.{rules}
 use Rattle.decode.proofs.read_take.Statement.{statement}
 use Rattle.decode.proofs.read_take.Tie as tie
 
-returns : tie.Need-returns
-returns c = body_cut 4 refl (lit< tt) (cut_first (2 ∷ []) (missed (sym c.before.before.read-u8.ensures ∙ ap said8 c.enum_told.given.1)))
+returns : tie.Need-returns-in_default
+returns c = body_cut 4 refl (lit< tt) (cut_first (2 ∷ []) (missed (sym c.read_u8.ensures ∙ ap said8 c.in_default.is)))
 
-returns-2 : tie.Need-returns-2
+returns-2 : tie.Need-returns-in_default-read_u16
 returns-2 c =
-    let lane = c.before.before.before.before in
-    body_cut 4 refl (lit< tt) (cut_later (got (sym lane.before.before.read-u8.ensures ∙ ap said8 lane.lane.given.1)) (missed (sym c.before.before.read-u16.ensures ∙ ap said16 c.enum-told2.given.1)))
+    body_cut 4 refl (lit< tt) (cut_later (got (sym c.read_u8.ensures ∙ ap said8 c.in-Value.is)) (missed (sym c.read_u16.ensures ∙ ap said16 c.in_default-read_u16.is)))
 
-returns-3 : tie.Need-returns-3
+returns-3 : tie.Need-returns
 returns-3 c =
-    let count = c.before in
-    let lane = count.before.before.before.before in
-    body_read 4 refl (and_then (got (sym lane.before.before.read-u8.ensures ∙ ap said8 lane.lane.given.1)) (got (sym count.before.before.read-u16.ensures ∙ ap said16 count.count.given.1)))
+    body_read 4 refl (and_then (got (sym c.read_u8.ensures ∙ ap said8 c.in-Value.is)) (got (sym c.read_u16.ensures ∙ ap said16 c.in-Value-read_u16.is)))
 
-pub read-take-spec : {M : Type 1} → statement M
-read-take-spec =
+pub read_take_spec : {M : Type 1} → statement M
+read_take_spec =
     tie.close
     (tie.spec
     (λ c κs. search rules)

@@ -9,37 +9,27 @@ use borrow.Author.Rules.{rules}
 use Rattle.decode.proofs.read_view.Statement.{statement}
 use Rattle.decode.proofs.read_view.Tie as tie
 
-returns : tie.Need-returns
-returns c = body_cut 11 refl (lit< tt) (cut_first (2 ∷ 1 ∷ 2 ∷ 2 ∷ 2 ∷ 2 ∷ 2 ∷ 2 ∷ 2 ∷ 2 ∷ 2 ∷ 2 ∷ 2 ∷ 2 ∷ 2 ∷ 2 ∷ 2 ∷ 2 ∷ []) (missed (sym c.before.before.read_u32.ensures ∙ ap said32 c.enum_told.given.1)))
+returns : tie.Need-returns-in_default
+returns c = body_cut 11 refl (lit< tt) (cut_first (2 ∷ 1 ∷ 2 ∷ 2 ∷ 2 ∷ 2 ∷ 2 ∷ 2 ∷ 2 ∷ 2 ∷ 2 ∷ 2 ∷ 2 ∷ 2 ∷ 2 ∷ 2 ∷ 2 ∷ 2 ∷ []) (missed (sym c.read_u32.ensures ∙ ap said32 c.in_default.is)))
 
-returns-2 : tie.Need-returns-2
+returns-2 : tie.Need-returns-in_default-read_u16
 returns-2 c =
-    let displacement = c.before.before.before.before in
-    body_cut 11 refl (lit< tt) (cut_later (got (sym displacement.before.before.read_u32.ensures ∙ ap said32 displacement.displacement.given.1)) (cut_first (1 ∷ 2 ∷ 2 ∷ 2 ∷ 2 ∷ 2 ∷ 2 ∷ 2 ∷ 2 ∷ 2 ∷ 2 ∷ 2 ∷ 2 ∷ 2 ∷ 2 ∷ 2 ∷ 2 ∷ []) (missed (sym c.before.before.read-u16.ensures ∙ ap said16 c.enum-told2.given.1))))
+    body_cut 11 refl (lit< tt) (cut_later (got (sym c.read_u32.ensures ∙ ap said32 c.in-Value.is)) (cut_first (1 ∷ 2 ∷ 2 ∷ 2 ∷ 2 ∷ 2 ∷ 2 ∷ 2 ∷ 2 ∷ 2 ∷ 2 ∷ 2 ∷ 2 ∷ 2 ∷ 2 ∷ 2 ∷ 2 ∷ []) (missed (sym c.read_u16.ensures ∙ ap said16 c.in_default-read_u16.is))))
 
-returns-3 : tie.Need-returns-3
+returns-3 : tie.Need-returns-in_default-read_u8
 returns-3 c =
-    let extent = c.before.before.before.before in
-    let displacement = extent.before.before.before.before in
-    body_cut 11 refl (lit< tt) (cut_later (got (sym displacement.before.before.read_u32.ensures ∙ ap said32 displacement.displacement.given.1)) (cut_later (got (sym extent.before.before.read-u16.ensures ∙ ap said16 extent.extent.given.1)) (cut_first (2 ∷ 2 ∷ 2 ∷ 2 ∷ 2 ∷ 2 ∷ 2 ∷ 2 ∷ 2 ∷ 2 ∷ 2 ∷ 2 ∷ 2 ∷ 2 ∷ 2 ∷ 2 ∷ []) (missed (sym c.before.before.read-u8.ensures ∙ ap said8 c.enum-told3.given.1)))))
+    body_cut 11 refl (lit< tt) (cut_later (got (sym c.read_u32.ensures ∙ ap said32 c.in-Value.is)) (cut_later (got (sym c.read_u16.ensures ∙ ap said16 c.in-Value-read_u16.is)) (cut_first (2 ∷ 2 ∷ 2 ∷ 2 ∷ 2 ∷ 2 ∷ 2 ∷ 2 ∷ 2 ∷ 2 ∷ 2 ∷ 2 ∷ 2 ∷ 2 ∷ 2 ∷ 2 ∷ []) (missed (sym c.read_u8.ensures ∙ ap said8 c.in_default-read_u8.is)))))
 
-returns-4 : tie.Need-returns-4
+returns-4 : tie.Need-returns-in_default-read_blocks
 returns-4 c =
-    let used = c.before.before.before.before in
-    let extent = used.before.before.before.before in
-    let displacement = extent.before.before.before.before in
-    body_cut 11 refl (lit< tt) (cut_later (got (sym displacement.before.before.read_u32.ensures ∙ ap said32 displacement.displacement.given.1)) (cut_later (got (sym extent.before.before.read-u16.ensures ∙ ap said16 extent.extent.given.1)) (cut_later (got (sym used.before.before.read-u8.ensures ∙ ap said8 used.used.given.1)) (missed (sym c.before.before.read-blocks.ensures ∙ ap said_blocks c.enum-told4.given.1)))))
+    body_cut 11 refl (lit< tt) (cut_later (got (sym c.read_u32.ensures ∙ ap said32 c.in-Value.is)) (cut_later (got (sym c.read_u16.ensures ∙ ap said16 c.in-Value-read_u16.is)) (cut_later (got (sym c.read_u8.ensures ∙ ap said8 c.in-Value-read_u8.is)) (missed (sym c.read_blocks.ensures ∙ ap said_blocks c.in_default-read_blocks.is)))))
 
-returns-5 : tie.Need-returns-5
+returns-5 : tie.Need-returns
 returns-5 c =
-    let blocks = c.before in
-    let used = blocks.before.before.before.before in
-    let extent = used.before.before.before.before in
-    let displacement = extent.before.before.before.before in
-    body_read 11 refl (and_then (got (sym displacement.before.before.read_u32.ensures ∙ ap said32 displacement.displacement.given.1)) (and_then (got (sym extent.before.before.read-u16.ensures ∙ ap said16 extent.extent.given.1)) (and_then (got (sym used.before.before.read-u8.ensures ∙ ap said8 used.used.given.1)) (got (sym blocks.before.before.read-blocks.ensures ∙ ap said_blocks blocks.blocks2.given.1)))))
+    body_read 11 refl (and_then (got (sym c.read_u32.ensures ∙ ap said32 c.in-Value.is)) (and_then (got (sym c.read_u16.ensures ∙ ap said16 c.in-Value-read_u16.is)) (and_then (got (sym c.read_u8.ensures ∙ ap said8 c.in-Value-read_u8.is)) (got (sym c.read_blocks.ensures ∙ ap said_blocks c.in-Value-read_blocks.is)))))
 
-pub read-view-spec : {M : Type 1} → statement M
-read-view-spec =
+pub read_view_spec : {M : Type 1} → statement M
+read_view_spec =
     tie.close
     (tie.spec
     (λ c κs. search rules)

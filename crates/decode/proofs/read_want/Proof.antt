@@ -9,22 +9,19 @@ use borrow.Author.Rules.{rules}
 use Rattle.decode.proofs.read_want.Statement.{statement}
 use Rattle.decode.proofs.read_want.Tie as tie
 
-returns : tie.Need-returns
-returns c = body_cut 2 refl (lit< tt) (cut_first (1 ∷ []) (missed (sym c.before.before.read-u8.ensures ∙ ap said8 c.enum_told.given.1)))
+returns : tie.Need-returns-in_default
+returns c = body_cut 2 refl (lit< tt) (cut_first (1 ∷ []) (missed (sym c.read_u8.ensures ∙ ap said8 c.in_default.is)))
 
-returns-2 : tie.Need-returns-2
+returns-2 : tie.Need-returns-in_default-read_u8
 returns-2 c =
-    let lane = c.before.before.before.before in
-    body_cut 2 refl (lit< tt) (cut_later (got (sym lane.before.before.read-u8.ensures ∙ ap said8 lane.lane.given.1)) (missed (sym c.before.before.read-u82.ensures ∙ ap said8 c.enum-told2.given.1)))
+    body_cut 2 refl (lit< tt) (cut_later (got (sym c.read_u8.ensures ∙ ap said8 c.in-Value.is)) (missed (sym c.read_u8-2.ensures ∙ ap said8 c.in_default-read_u8.is)))
 
-returns-3 : tie.Need-returns-3
+returns-3 : tie.Need-returns
 returns-3 c =
-    let purpose = c.before in
-    let lane = purpose.before.before.before.before in
-    body_read 2 refl (and_then (got (sym lane.before.before.read-u8.ensures ∙ ap said8 lane.lane.given.1)) (got (sym purpose.before.before.read-u82.ensures ∙ ap said8 purpose.purpose.given.1)))
+    body_read 2 refl (and_then (got (sym c.read_u8.ensures ∙ ap said8 c.in-Value.is)) (got (sym c.read_u8-2.ensures ∙ ap said8 c.in-Value-read_u8.is)))
 
-pub read-want-spec : {M : Type 1} → statement M
-read-want-spec =
+pub read_want_spec : {M : Type 1} → statement M
+read_want_spec =
     tie.close
     (tie.spec
     (λ c κs. search rules)

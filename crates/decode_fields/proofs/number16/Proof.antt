@@ -7,14 +7,14 @@ use Rattle.decode_fields.proofs.number16.Statement.{statement}
 use Rattle.decode_fields.proofs.number16.Tie as tie
 
 returns : tie.Need-returns
-returns c = let s = c.before.before.before.before.before.args in
+returns c = let s = c.args in
     let bytes = s.sheet.now in (
       omega (arith, number_split 1 1 bytes s.at (search rules), number_of_one bytes s.at (search rules), number_of_one bytes (s.at + 1) (search rules)),
       search rules,
     )
 
-pub number16-spec : {M : Type 1} → statement M
-number16-spec =
+pub number16_spec : {M : Type 1} → statement M
+number16_spec =
     tie.close
     (tie.spec
     (λ c. search rules)

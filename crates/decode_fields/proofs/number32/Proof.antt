@@ -6,11 +6,11 @@ use Rattle.decode_fields.proofs.number32.Statement.{statement}
 use Rattle.decode_fields.proofs.number32.Tie as tie
 
 returns : tie.Need-returns
-returns c = let s = c.before.before.before.args in
+returns c = let s = c.args in
     (omega (arith, number_split 2 2 s.sheet.now s.at (search rules)), search rules)
 
-pub number32-spec : {M : Type 1} → statement M
-number32-spec =
+pub number32_spec : {M : Type 1} → statement M
+number32_spec =
     tie.close
     (tie.spec
     (λ c κs. search rules)

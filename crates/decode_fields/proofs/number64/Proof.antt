@@ -6,11 +6,11 @@ use Rattle.decode_fields.proofs.number64.Statement.{statement}
 use Rattle.decode_fields.proofs.number64.Tie as tie
 
 returns : tie.Need-returns
-returns c = let s = c.before.before.before.args in
+returns c = let s = c.args in
     omega (arith, number_split 4 4 s.sheet.now s.at (search rules))
 
-pub number64-spec : {M : Type 1} → statement M
-number64-spec =
+pub number64_spec : {M : Type 1} → statement M
+number64_spec =
     tie.close
     (tie.spec
     (λ c κs. search rules)

@@ -7,22 +7,19 @@ use borrow.Author.Rules.{rules}
 use Rattle.decode_fields.proofs.read_block.Statement.{statement}
 use Rattle.decode_fields.proofs.read_block.Tie as tie
 
-returns : tie.Need-returns
-returns c = cut_said (cut_first (2 ∷ []) (missed (sym c.before.before.read-u16.ensures ∙ ap said16 c.enum_told.given.1)))
+returns : tie.Need-returns-in_default
+returns c = cut_said (cut_first (2 ∷ []) (missed (sym c.read_u16.ensures ∙ ap said16 c.in_default.is)))
 
-returns-2 : tie.Need-returns-2
+returns-2 : tie.Need-returns-in_default-read_u16
 returns-2 c =
-    let start = c.before.before.before.before in
-    cut_said (cut_later (got (sym start.before.before.read-u16.ensures ∙ ap said16 start.start.given.1)) (missed (sym c.before.before.read-u162.ensures ∙ ap said16 c.enum-told2.given.1)))
+    cut_said (cut_later (got (sym c.read_u16.ensures ∙ ap said16 c.in-Value.is)) (missed (sym c.read_u16-2.ensures ∙ ap said16 c.in_default-read_u16.is)))
 
-returns-3 : tie.Need-returns-3
+returns-3 : tie.Need-returns
 returns-3 c =
-    let length = c.before in
-    let start = length.before.before.before.before in
-    got_said (and_then (got (sym start.before.before.read-u16.ensures ∙ ap said16 start.start.given.1)) (got (sym length.before.before.read-u162.ensures ∙ ap said16 length.length.given.1)))
+    got_said (and_then (got (sym c.read_u16.ensures ∙ ap said16 c.in-Value.is)) (got (sym c.read_u16-2.ensures ∙ ap said16 c.in-Value-read_u16.is)))
 
-pub read-block-spec : {M : Type 1} → statement M
-read-block-spec =
+pub read_block_spec : {M : Type 1} → statement M
+read_block_spec =
     tie.close
     (tie.spec
     (λ c κs. search rules)

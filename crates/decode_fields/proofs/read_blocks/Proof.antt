@@ -7,22 +7,19 @@ use borrow.Author.Rules.{rules}
 use Rattle.decode_fields.proofs.read_blocks.Statement.{statement}
 use Rattle.decode_fields.proofs.read_blocks.Tie as tie
 
-returns : tie.Need-returns
-returns c = cut_said (cut_first (replicate 8 2) (missed (sym c.before.before.read-four.ensures ∙ ap said_four c.enum_told.given.1)))
+returns : tie.Need-returns-in_default
+returns c = cut_said (cut_first (replicate 8 2) (missed (sym c.read_four.ensures ∙ ap said_four c.in_default.is)))
 
-returns-2 : tie.Need-returns-2
+returns-2 : tie.Need-returns-in_default-read_four
 returns-2 c =
-    let b0 = c.before.before.before.before in
-    cut_said (cut_later (got (sym b0.before.before.read-four.ensures ∙ ap said_four b0.b0.given.1)) (missed (sym c.before.before.read-four2.ensures ∙ ap said_four c.enum-told2.given.1)))
+    cut_said (cut_later (got (sym c.read_four.ensures ∙ ap said_four c.in-Value.is)) (missed (sym c.read_four-2.ensures ∙ ap said_four c.in_default-read_four.is)))
 
-returns-3 : tie.Need-returns-3
+returns-3 : tie.Need-returns
 returns-3 c =
-    let b4 = c.before in
-    let b0 = b4.before.before.before.before in
-    got_said (and_then (got (sym b0.before.before.read-four.ensures ∙ ap said_four b0.b0.given.1)) (got (sym b4.before.before.read-four2.ensures ∙ ap said_four b4.b4.given.1)))
+    got_said (and_then (got (sym c.read_four.ensures ∙ ap said_four c.in-Value.is)) (got (sym c.read_four-2.ensures ∙ ap said_four c.in-Value-read_four.is)))
 
-pub read-blocks-spec : {M : Type 1} → statement M
-read-blocks-spec =
+pub read_blocks_spec : {M : Type 1} → statement M
+read_blocks_spec =
     tie.close
     (tie.spec
     (λ c κs. search rules)

@@ -7,37 +7,27 @@ use borrow.Author.Rules.{rules}
 use Rattle.decode_fields.proofs.read_four.Statement.{statement}
 use Rattle.decode_fields.proofs.read_four.Tie as tie
 
-returns : tie.Need-returns
-returns c = cut_said (cut_first (2 ∷ 2 ∷ 2 ∷ 2 ∷ 2 ∷ 2 ∷ []) (missed (sym c.before.before.read-block.ensures ∙ ap said_block c.enum_told.given.1)))
+returns : tie.Need-returns-in_default
+returns c = cut_said (cut_first (2 ∷ 2 ∷ 2 ∷ 2 ∷ 2 ∷ 2 ∷ []) (missed (sym c.read_block.ensures ∙ ap said_block c.in_default.is)))
 
-returns-2 : tie.Need-returns-2
+returns-2 : tie.Need-returns-in_default-read_block
 returns-2 c =
-    let b0 = c.before.before.before.before in
-    cut_said (cut_later (got (sym b0.before.before.read-block.ensures ∙ ap said_block b0.b0.given.1)) (cut_first (2 ∷ 2 ∷ 2 ∷ 2 ∷ []) (missed (sym c.before.before.read-block2.ensures ∙ ap said_block c.enum-told2.given.1))))
+    cut_said (cut_later (got (sym c.read_block.ensures ∙ ap said_block c.in-Value.is)) (cut_first (2 ∷ 2 ∷ 2 ∷ 2 ∷ []) (missed (sym c.read_block-2.ensures ∙ ap said_block c.in_default-read_block.is))))
 
-returns-3 : tie.Need-returns-3
+returns-3 : tie.Need-returns-in_default-read_block-2
 returns-3 c =
-    let b1 = c.before.before.before.before in
-    let b0 = b1.before.before.before.before in
-    cut_said (cut_later (got (sym b0.before.before.read-block.ensures ∙ ap said_block b0.b0.given.1)) (cut_later (got (sym b1.before.before.read-block2.ensures ∙ ap said_block b1.b1.given.1)) (cut_first (2 ∷ 2 ∷ []) (missed (sym c.before.before.read-block3.ensures ∙ ap said_block c.enum-told3.given.1)))))
+    cut_said (cut_later (got (sym c.read_block.ensures ∙ ap said_block c.in-Value.is)) (cut_later (got (sym c.read_block-2.ensures ∙ ap said_block c.in-Value-read_block.is)) (cut_first (2 ∷ 2 ∷ []) (missed (sym c.read_block-3.ensures ∙ ap said_block c.in_default-read_block-2.is)))))
 
-returns-4 : tie.Need-returns-4
+returns-4 : tie.Need-returns-in_default-read_block-3
 returns-4 c =
-    let b2 = c.before.before.before.before in
-    let b1 = b2.before.before.before.before in
-    let b0 = b1.before.before.before.before in
-    cut_said (cut_later (got (sym b0.before.before.read-block.ensures ∙ ap said_block b0.b0.given.1)) (cut_later (got (sym b1.before.before.read-block2.ensures ∙ ap said_block b1.b1.given.1)) (cut_later (got (sym b2.before.before.read-block3.ensures ∙ ap said_block b2.b2.given.1)) (missed (sym c.before.before.read-block4.ensures ∙ ap said_block c.enum-told4.given.1)))))
+    cut_said (cut_later (got (sym c.read_block.ensures ∙ ap said_block c.in-Value.is)) (cut_later (got (sym c.read_block-2.ensures ∙ ap said_block c.in-Value-read_block.is)) (cut_later (got (sym c.read_block-3.ensures ∙ ap said_block c.in-Value-read_block-2.is)) (missed (sym c.read_block-4.ensures ∙ ap said_block c.in_default-read_block-3.is)))))
 
-returns-5 : tie.Need-returns-5
+returns-5 : tie.Need-returns
 returns-5 c =
-    let b3 = c.before in
-    let b2 = b3.before.before.before.before in
-    let b1 = b2.before.before.before.before in
-    let b0 = b1.before.before.before.before in
-    got_said (and_then (got (sym b0.before.before.read-block.ensures ∙ ap said_block b0.b0.given.1)) (and_then (got (sym b1.before.before.read-block2.ensures ∙ ap said_block b1.b1.given.1)) (and_then (got (sym b2.before.before.read-block3.ensures ∙ ap said_block b2.b2.given.1)) (got (sym b3.before.before.read-block4.ensures ∙ ap said_block b3.b3.given.1)))))
+    got_said (and_then (got (sym c.read_block.ensures ∙ ap said_block c.in-Value.is)) (and_then (got (sym c.read_block-2.ensures ∙ ap said_block c.in-Value-read_block.is)) (and_then (got (sym c.read_block-3.ensures ∙ ap said_block c.in-Value-read_block-2.is)) (got (sym c.read_block-4.ensures ∙ ap said_block c.in-Value-read_block-3.is)))))
 
-pub read-four-spec : {M : Type 1} → statement M
-read-four-spec =
+pub read_four_spec : {M : Type 1} → statement M
+read_four_spec =
     tie.close
     (tie.spec
     (λ c κs. search rules)

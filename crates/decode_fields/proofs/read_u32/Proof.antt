@@ -11,23 +11,23 @@ use borrow.Author.Rules.{rules}
 use Rattle.decode_fields.proofs.read_u32.Statement.{statement}
 use Rattle.decode_fields.proofs.read_u32.Tie as tie
 
-reaches : (c : tie.Else1) → leb (c.before.before.before.args.at + 4) (length c.before.before.before.args.sheet.now) ≡ true
-reaches c = sym c.before.has.ensures ∙ not-false _ c.if1.false
+reaches : (c : tie.Else-not-has) → leb (c.args.at + 4) (length c.args.sheet.now) ≡ true
+reaches c = sym c.has.ensures ∙ not-false _ c.if-not-has.false-raw
 
-room : (c : tie.Else1) → c.before.before.before.args.at + 4 ≤ length c.before.before.before.args.sheet.now
+room : (c : tie.Else-not-has) → c.args.at + 4 ≤ length c.args.sheet.now
 room c = leb-true _ _ (reaches c)
 
-returns : tie.Need-returns
-returns c = one_cut 4 _ _ (sym c.before.has.ensures ∙ not-true _ c.if1.true)
+returns : tie.Need-returns-then-not-has
+returns c = one_cut 4 _ _ (sym c.has.ensures ∙ not-true _ c.if-not-has.true-raw)
 
 number32-requires : tie.Need-number32-requires
 number32-requires c κs = room c
 
-add-t6 : tie.Need-overflow-add-t6
+add-t6 : tie.Need-overflow_add-result
 add-t6 c = omega (arith, room c.before)
 
-returns-2 : tie.Need-returns-2
+returns-2 : tie.Need-returns
 returns-2 c = one_got 4 _ _ _ (reaches c.before) c.number32.ensures.0
 
-pub read-u32-spec : {M : Type 1} → statement M
-read-u32-spec = tie.close (tie.spec (λ c κs. search rules) returns number32-requires add-t6 returns-2)
+pub read_u32_spec : {M : Type 1} → statement M
+read_u32_spec = tie.close (tie.spec (λ c κs. search rules) returns number32-requires add-t6 returns-2)

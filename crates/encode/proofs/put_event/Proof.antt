@@ -7,99 +7,99 @@ use borrow.Author.Rules.{rules}
 use Rattle.encode.proofs.put_event.Statement.{statement}
 use Rattle.encode.proofs.put_event.Tie as tie
 
-put-head-u32-requires : tie.Need-put-head-u32-requires
-put-head-u32-requires c κs = rw c.before.before.event.given.1 at c.before.before.before.before.before.requires
+put-head-u32-requires : tie.Need-put_head_u32-requires
+put-head-u32-requires c κs = rw c.in-Open.is at c.requires
 
-put-head-u8-requires : tie.Need-put-head-u8-requires
-put-head-u8-requires c κs = rw c.before.before.event2.given.1 at c.before.before.before.before.before.requires
+put-head-u8-requires : tie.Need-put_head_u8-requires
+put-head-u8-requires c κs = rw c.in-Want.is at c.requires
 
-put-head-requires : tie.Need-put-head-requires
-put-head-requires c κs = rw c.before.before.event3.given.1 at c.before.before.before.before.before.requires
+put-head-requires : tie.Need-put_head-requires
+put-head-requires c κs = rw c.in-Receive.is at c.requires
 
-put-head-u16-requires : tie.Need-put-head-u16-requires
-put-head-u16-requires c κs = rw c.before.before.event4.given.1 at c.before.before.before.before.before.requires
+put-head-u16-requires : tie.Need-put_head_u16-requires
+put-head-u16-requires c κs = rw c.in-Take.is at c.requires
 
-put-head-u64-requires : tie.Need-put-head-u64-requires
-put-head-u64-requires c κs = rw c.before.before.event5.given.1 at c.before.before.before.before.before.requires
+put-head-u64-requires : tie.Need-put_head_u64-requires
+put-head-u64-requires c κs = rw c.in-Write.is at c.requires
 
-put-head-requires-2 : tie.Need-put-head-requires-2
-put-head-requires-2 c κs = rw c.before.before.event6.given.1 at c.before.before.before.before.before.requires
+put-head-requires-2 : tie.Need-put_head-requires-in-Read
+put-head-requires-2 c κs = rw c.in-Read.is at c.requires
 
-write-put-requires : tie.Need-write-put-requires
-write-put-requires c κs = rw c.before.before.event7.given.1 at c.before.before.before.before.before.requires
+write-put-requires : tie.Need-write_put-requires
+write-put-requires c κs = rw c.in-Put.is at c.requires
 
-put-head-u32-requires-2 : tie.Need-put-head-u32-requires-2
-put-head-u32-requires-2 c κs = rw c.before.before.event8.given.1 at c.before.before.before.before.before.requires
+put-head-u32-requires-2 : tie.Need-put_head_u32-requires-in-Look
+put-head-u32-requires-2 c κs = rw c.in-Look.is at c.requires
 
-put-head-requires-3 : tie.Need-put-head-requires-3
-put-head-requires-3 c κs = rw c.before.before.event9.given.1 at c.before.before.before.before.before.requires
+put-head-requires-3 : tie.Need-put_head-requires-in-Free
+put-head-requires-3 c κs = rw c.in-Free.is at c.requires
 
-put-head-u16-requires-2 : tie.Need-put-head-u16-requires-2
-put-head-u16-requires-2 c κs = rw c.before.before.event10.given.1 at c.before.before.before.before.before.requires
+put-head-u16-requires-2 : tie.Need-put_head_u16-requires-in-Enter
+put-head-u16-requires-2 c κs = rw c.in-Enter.is at c.requires
 
-write-view-requires : tie.Need-write-view-requires
-write-view-requires c κs = rw c.before.before.event11.given.1 at c.before.before.before.before.before.requires
+write-view-requires : tie.Need-write_view-requires
+write-view-requires c κs = rw c.in-View.is at c.requires
 
-put-head-u32-requires-3 : tie.Need-put-head-u32-requires-3
-put-head-u32-requires-3 c κs = rw c.before.before.before.event12.given.1 at c.before.before.before.before.before.before.requires
+put-head-u32-requires-3 : tie.Need-put_head_u32-requires-in-Seek
+put-head-u32-requires-3 c κs = rw c.in-Seek.is at c.requires
 
-returns : tie.Need-returns
+returns : tie.Need-returns-in-Open
 unfolding with_event
-returns c = rw c.before.before.before.before.before.event.given.1 c.before.before.put-head-u32.ensures
+returns c = rw c.in-Open.is c.put_head_u32.ensures
 
-returns-2 : tie.Need-returns-2
+returns-2 : tie.Need-returns-in-Want
 unfolding with_event
-returns-2 c = rw c.before.before.before.before.before.event2.given.1 c.before.before.put-head-u8.ensures
+returns-2 c = rw c.in-Want.is c.put_head_u8.ensures
 
-returns-3 : tie.Need-returns-3
+returns-3 : tie.Need-returns-in-Receive
 unfolding with_event
-returns-3 c = rw c.before.before.before.before.before.event3.given.1 c.before.before.put-head.ensures
+returns-3 c = rw c.in-Receive.is c.put_head.ensures
 
-returns-4 : tie.Need-returns-4
+returns-4 : tie.Need-returns-in-Take
 unfolding with_event
-returns-4 c = rw c.before.before.before.before.before.event4.given.1 c.before.before.put-head-u16.ensures
+returns-4 c = rw c.in-Take.is c.put_head_u16.ensures
 
-returns-5 : tie.Need-returns-5
+returns-5 : tie.Need-returns-in-Write
 unfolding with_event
-returns-5 c = rw c.before.before.before.before.before.event5.given.1 c.before.before.put-head-u64.ensures
+returns-5 c = rw c.in-Write.is c.put_head_u64.ensures
 
-returns-6 : tie.Need-returns-6
+returns-6 : tie.Need-returns-in-Read
 unfolding with_event
-returns-6 c = rw c.before.before.before.before.before.event6.given.1 c.before.before.put-head2.ensures
+returns-6 c = rw c.in-Read.is c.put_head-in-Read.ensures
 
-returns-7 : tie.Need-returns-7
+returns-7 : tie.Need-returns-in-Put
 unfolding with_event
-returns-7 c = rw c.before.before.before.before.before.event7.given.1 c.before.before.write-put.ensures
+returns-7 c = rw c.in-Put.is c.write_put.ensures
 
-returns-8 : tie.Need-returns-8
+returns-8 : tie.Need-returns-in-Look
 unfolding with_event
-returns-8 c = rw c.before.before.before.before.before.event8.given.1 c.before.before.put-head-u322.ensures
+returns-8 c = rw c.in-Look.is c.put_head_u32-in-Look.ensures
 
-returns-9 : tie.Need-returns-9
+returns-9 : tie.Need-returns-in-Free
 unfolding with_event
-returns-9 c = rw c.before.before.before.before.before.event9.given.1 c.before.before.put-head3.ensures
+returns-9 c = rw c.in-Free.is c.put_head-in-Free.ensures
 
-returns-10 : tie.Need-returns-10
+returns-10 : tie.Need-returns-in-Enter
 unfolding with_event
-returns-10 c = rw c.before.before.before.before.before.event10.given.1 c.before.before.put-head-u162.ensures
+returns-10 c = rw c.in-Enter.is c.put_head_u16-in-Enter.ensures
 
-returns-11 : tie.Need-returns-11
+returns-11 : tie.Need-returns-in-View
 unfolding with_event
-returns-11 c = rw c.before.before.before.before.before.event11.given.1 c.before.before.write_view.ensures
+returns-11 c = rw c.in-View.is c.write_view.ensures
 
-returns-12 : tie.Need-returns-12
+returns-12 : tie.Need-returns-in-Seek
 unfolding with_event
-returns-12 c = let told = c.before.before.before.before.before.before in
-    let z = told.event12.given.0.1.0 in
-    let fits : SFits w32 z = record { sfits = c.before.before.before.before.before.known-told12.given.1.0.1 } in
-    rw (told.event12.given.1, ← to_z-of_z fits, ← c.before.before.before.Unsigned-of.ensures) c.before.before.put-head-u323.ensures
+returns-12 c =
+    let z = c.in-Seek.offset in
+    let fits : SFits w32 z = search rules in
+    rw (c.in-Seek.is, ← to_z-of_z fits, ← c.unsigned_of.ensures) c.put_head_u32-in-Seek.ensures
 
-returns-13 : tie.Need-returns-13
+returns-13 : tie.Need-returns-in-Unlisted
 unfolding with_event
-returns-13 c = rw c.enum_told.given.1
+returns-13 c = rw c.in-Unlisted.is
 
-pub put-event-spec : {M : Type 1} → statement M
-put-event-spec =
+pub put_event_spec : {M : Type 1} → statement M
+put_event_spec =
     tie.close
     (tie.spec
     (λ c. search rules)

@@ -6,10 +6,9 @@ use Rattle.encode_fields.proofs.put_block.Statement.{statement}
 use Rattle.encode_fields.proofs.put_block.Tie as tie
 
 returns : tie.Need-returns
-returns c = let second = c.before.before in
-    let first = second.before.before.before.before in
-    (and_then (put first.put-u16.ensures) (put second.put-u162.ensures) refl refl).left
+returns c =
+    (and_then (put c.put_u16.ensures) (put c.put_u16-2.ensures) refl refl).left
 
-pub put-block-spec : {M : Type 1} → statement M
-put-block-spec =
+pub put_block_spec : {M : Type 1} → statement M
+put_block_spec =
     tie.close (tie.spec (λ c κs. search rules) (λ c. search rules) (λ c κs. search rules) (λ c. search rules) returns)

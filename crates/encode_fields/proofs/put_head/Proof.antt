@@ -6,9 +6,8 @@ use Rattle.encode_fields.proofs.put_head.Statement.{statement}
 use Rattle.encode_fields.proofs.put_head.Tie as tie
 
 returns : tie.Need-returns
-returns c = let call2 = c.before.before in
-    let call1 = call2.before.before.before.before in
-    (and_then (put call1.put-u8.ensures) (put call2.put-u82.ensures) refl refl).left
+returns c =
+    (and_then (put c.put_u8.ensures) (put c.put_u8-2.ensures) refl refl).left
 
-pub put-head-spec : {M : Type 1} → statement M
-put-head-spec = tie.close (tie.spec (λ c κs. search rules) (λ c κs. search rules) (λ c. search rules) returns)
+pub put_head_spec : {M : Type 1} → statement M
+put_head_spec = tie.close (tie.spec (λ c κs. search rules) (λ c κs. search rules) (λ c. search rules) returns)

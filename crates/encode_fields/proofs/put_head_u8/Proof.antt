@@ -6,9 +6,8 @@ use Rattle.encode_fields.proofs.put_head_u8.Statement.{statement}
 use Rattle.encode_fields.proofs.put_head_u8.Tie as tie
 
 returns : tie.Need-returns
-returns c = let call2 = c.before.before in
-    let call1 = call2.before.before.before.before in
-    (and_then (put call1.put-head.ensures) (put call2.put-u8.ensures) refl refl).left
+returns c =
+    (and_then (put c.put_head.ensures) (put c.put_u8.ensures) refl refl).left
 
-pub put-head-u8-spec : {M : Type 1} → statement M
-put-head-u8-spec = tie.close (tie.spec (λ c κs. search rules) (λ c κs. search rules) (λ c. search rules) returns)
+pub put_head_u8_spec : {M : Type 1} → statement M
+put_head_u8_spec = tie.close (tie.spec (λ c κs. search rules) (λ c κs. search rules) (λ c. search rules) returns)

@@ -5,12 +5,11 @@ use Rattle.encode_fields.proofs.put_u32.Statement.{statement}
 use Rattle.encode_fields.proofs.put_u32.Tie as tie
 
 returns : tie.Need-returns
-returns c = let second = c.before.before in
-    let first = second.before.before.before.before in
-    two_halves 2 first.before.before.before.args.v (search rules) (put first.put-u16.ensures) (put second.put-u162.ensures)
+returns c =
+    two_halves 2 c.args.v (search rules) (put c.put_u16.ensures) (put c.put_u16-2.ensures)
 
-pub put-u32-spec : {M : Type 1} → statement M
-put-u32-spec =
+pub put_u32_spec : {M : Type 1} → statement M
+put_u32_spec =
     tie.close
     (tie.spec
     (λ c. search rules)

@@ -5,12 +5,11 @@ use Rattle.encode_fields.proofs.put_u64.Statement.{statement}
 use Rattle.encode_fields.proofs.put_u64.Tie as tie
 
 returns : tie.Need-returns
-returns c = let second = c.before.before in
-    let first = second.before.before.before.before in
-    two_halves 4 first.before.before.before.args.v (search rules) (put first.put-u32.ensures) (put second.put-u322.ensures)
+returns c =
+    two_halves 4 c.args.v (search rules) (put c.put_u32.ensures) (put c.put_u32-2.ensures)
 
-pub put-u64-spec : {M : Type 1} → statement M
-put-u64-spec =
+pub put_u64_spec : {M : Type 1} → statement M
+put_u64_spec =
     tie.close
     (tie.spec
     (λ c. search rules)

@@ -6,9 +6,8 @@ use Rattle.encode_fields.proofs.write_put.Statement.{statement}
 use Rattle.encode_fields.proofs.write_put.Tie as tie
 
 returns : tie.Need-returns
-returns c = let call2 = c.before.before in
-    let call1 = call2.before.before.before.before in
-    (and_then (put call1.put-head-u32.ensures) (put call2.put-u64.ensures) refl refl).left
+returns c =
+    (and_then (put c.put_head_u32.ensures) (put c.put_u64.ensures) refl refl).left
 
-pub write-put-spec : {M : Type 1} → statement M
-write-put-spec = tie.close (tie.spec (λ c κs. search rules) (λ c κs. search rules) (λ c. search rules) returns)
+pub write_put_spec : {M : Type 1} → statement M
+write_put_spec = tie.close (tie.spec (λ c κs. search rules) (λ c κs. search rules) (λ c. search rules) returns)

@@ -9,35 +9,25 @@ use Rattle.event_calls.proofs.Unsound.{event_call, never_end, refused_call}
 use Rattle.event_calls.proofs.call_bytes.Statement.{statement}
 use Rattle.event_calls.proofs.call_bytes.Tie as tie
 
-returns : tie.Need-returns
+returns : tie.Need-returns-in-Event
 unfolding body_at
 returns c =
-    let called = c.before.before in
-    let told = called.before.before.before in
-    let reading = told.before.before in
-    let s = reading.before.before.before in
-    rw (event_call (call_of s.args.kind s.args.body.now) (0 + body_length s.args.kind) told.event.given.0.0 told.event.given.0.1.0 (sym reading.read-body.ensures ∙ told.event.given.1))
-    called.call-event.ensures
+    rw (event_call (call_of c.args.kind c.args.body.now) (0 + body_length c.args.kind) c.in-Event.event c.in-Event.next (sym c.read_body.ensures ∙ c.in-Event.is))
+    c.call_event.ensures
 
-returns-2 : tie.Need-returns-2
+returns-2 : tie.Need-returns-in-End
 unfolding body_at
 returns-2 c =
-    let told = c.before.before in
-    let reading = told.before.before in
-    let s = reading.before.before.before in
-    never_end (call_of s.args.kind s.args.body.now) (0 + body_length s.args.kind) (sym reading.read-body.ensures ∙ told.enum_told.given.1)
+    never_end (call_of c.args.kind c.args.body.now) (0 + body_length c.args.kind) (sym c.read_body.ensures ∙ c.in-End.is)
 
-returns-3 : tie.Need-returns-3
+returns-3 : tie.Need-returns-in-Refused
 unfolding body_at
 returns-3 c =
-    let told = c.before.before.before in
-    let reading = told.before.before in
-    let s = reading.before.before.before in
-    refused_call s.args.line s.args.book.now (call_of s.args.kind s.args.body.now) (0 + body_length s.args.kind) told.number.given.0.0 _
-    (sym reading.read-body.ensures ∙ told.number.given.1) c.refuse-bytes2.ensures
+    refused_call c.args.line c.args.book.now (call_of c.args.kind c.args.body.now) (0 + body_length c.args.kind) c.in-Refused.number _
+    (sym c.read_body.ensures ∙ c.in-Refused.is) c.refuse_bytes-in-Refused.ensures
 
-pub call-bytes-spec : {M : Type 1} → statement M
-call-bytes-spec =
+pub call_bytes_spec : {M : Type 1} → statement M
+call_bytes_spec =
     tie.close
     (tie.spec
     (λ c κs. search rules)

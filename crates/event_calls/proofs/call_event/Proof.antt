@@ -13,49 +13,46 @@ use borrow.Author.Rules.{rules}
 use Rattle.event_calls.proofs.call_event.Statement.{statement}
 use Rattle.event_calls.proofs.call_event.Tie as tie
 
-abbrev start : tie.After-scope-of → tie.Start
+abbrev start : tie.After-scope_of-scope → tie.Start
 start d = d.before.before.before.before
 
-is_sound_there : (d : tie.After-scope-of) → sound (start d).args.line (length (start d).args.book.now) ≡ true
-is_sound_there d = sym d.before.before.is-sound.ensures ∙ not-false _ d.before.if1.false
+is_sound_there : (d : tie.After-scope_of-scope) → sound (start d).args.line (length (start d).args.book.now) ≡ true
+is_sound_there d = sym d.is_sound.ensures ∙ not-false _ d.if-not-is_sound.false-raw
 
 -- the event is that of the call that was found out
-called_event : (d : tie.After-scope-of) (found : Scope) → d.scope_of.result ≡ found → (start d).args.event ≡ event_in found
-called_event d found q = found_event (start d).args.event found (sym d.scope_of.ensures ∙ q)
+called_event : (d : tie.After-scope_of-scope) (found : Scope) → d.scope_of-scope.result ≡ found → (start d).args.event ≡ event_in found
+called_event d found q = found_event (start d).args.event found (sym d.scope_of-scope.ensures ∙ q)
 
-returns : tie.Need-returns
+returns : tie.Need-returns-then-not-is_sound
 returns c =
-    let tested = c.before.before in
-    let s = tested.before.before in
-    unsound s.args.line s.args.book.now (given s.args.event) _ (sym tested.is-sound.ensures ∙ not-true _ c.before.if1.true) c.refuse.ensures
+    unsound c.args.line c.args.book.now (given c.args.event) _ (sym c.is_sound.ensures ∙ not-true _ c.if-not-is_sound.true-raw) c.refuse.ensures
 
-call-lane-requires : tie.Need-call-lane-requires
-call-lane-requires c κs = is_sound_there c.before.before.before.before
+call-lane-requires : tie.Need-call_lane-requires
+call-lane-requires c κs = is_sound_there c.before.before
 
-call-line-requires : tie.Need-call-line-requires
-call-line-requires c κs = is_sound_there c.before.before.before.before
+call-line-requires : tie.Need-call_line-requires
+call-line-requires c κs = is_sound_there c.before.before
 
-returns-2 : tie.Need-returns-2
+returns-2 : tie.Need-returns-in-Lane
 returns-2 c =
     let called = c.before.before in
-    let told = called.before.before.before in
-    rw (called_event told.before.before _ told.scope.given.1) called.call-lane.ensures
+    let told = called.before.before in
+    rw (called_event told.before _ told.in-Lane.is) called.call_lane.ensures
 
-returns-3 : tie.Need-returns-3
+returns-3 : tie.Need-returns-in-Line
 returns-3 c =
     let called = c.before.before in
-    let told = called.before.before.before in
-    rw (called_event told.before.before _ told.scope2.given.1) called.call_line.ensures
+    let told = called.before.before in
+    rw (called_event told.before _ told.in-Line.is) called.call_line.ensures
 
-returns-4 : tie.Need-returns-4
+returns-4 : tie.Need-returns-in-Unlisted
 returns-4 c =
     let told = c.before in
-    let d = told.before.before in
-    let s = d.before.before.before.before in
-    rw (called_event d _ told.enum_told.given.1) (unlisted_refused s.args.line s.args.book.now c.refuse2.result (is_sound_there d) c.refuse2.ensures)
+    let d = told.before in
+    rw (called_event d _ told.in-Unlisted.is) (unlisted_refused d.args.line d.args.book.now c.refuse-in-Unlisted.result (is_sound_there d) c.refuse-in-Unlisted.ensures)
 
-pub call-event-spec : {M : Type 1} → statement M
-call-event-spec =
+pub call_event_spec : {M : Type 1} → statement M
+call_event_spec =
     tie.close
     (tie.spec
     (λ c κs. search rules)

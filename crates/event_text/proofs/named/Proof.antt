@@ -7,5 +7,5 @@ use Rattle.event_text.proofs.named.Tie as tie
 returns : tie.Need-returns
 returns c = search (and_then, rules)
 
-pub named-spec : {M : Type 1} → statement M
-named-spec = tie.close (tie.spec (λ c κs. search rules) (λ c κs. search rules) (λ c. search rules) returns)
+pub named_spec : {M : Type 1} → statement M
+named_spec = tie.close (tie.spec (λ c κs. search rules) (λ c κs. search rules) (λ c. search rules) returns)

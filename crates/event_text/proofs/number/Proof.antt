@@ -7,19 +7,16 @@ use Rattle.number_text.proofs.Decimal.{few_digits}
 use Rattle.event_text.proofs.number.Statement.{statement}
 use Rattle.event_text.proofs.number.Tie as tie
 
-put-number-requires : tie.Need-put-number-requires
+put-number-requires : tie.Need-put_number-requires
 put-number-requires c κs =
-    let s = c.before.before in
-    omega (arith, s.requires, few_digits 19 s.args.n (omega arith))
+    omega (arith, c.requires, few_digits 19 c.args.n (omega arith))
 
 returns : tie.Need-returns
 returns c =
-    let at1 = c.before.before in
-    let s = at1.before.before.before in
-    (at1.put-number.ensures, omega (arith, past (decimal s.args.n) _ at1.put-number.ensures, few_digits 19 s.args.n (omega arith)))
+    (c.put_number.ensures, omega (arith, past (decimal c.args.n) _ c.put_number.ensures, few_digits 19 c.args.n (omega arith)))
 
-pub number-spec : {M : Type 1} → statement M
-number-spec =
+pub number_spec : {M : Type 1} → statement M
+number_spec =
     tie.close
     (tie.spec
     put-number-requires

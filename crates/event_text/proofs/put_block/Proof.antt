@@ -8,8 +8,8 @@ use Rattle.event_text.proofs.put_block.Tie as tie
 returns : tie.Need-returns
 returns c = search (two_then, and_then, rules)
 
-pub put-block-spec : {M : Type 1} → statement M
-put-block-spec =
+pub put_block_spec : {M : Type 1} → statement M
+put_block_spec =
     tie.close
     (tie.spec
     (λ c κs. search rules)

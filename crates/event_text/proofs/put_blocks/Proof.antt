@@ -9,8 +9,8 @@ returns : tie.Need-returns
 unfolding words
 returns c = search (two_then, rules)
 
-pub put-blocks-spec : {M : Type 1} → statement M
-put-blocks-spec =
+pub put_blocks_spec : {M : Type 1} → statement M
+put_blocks_spec =
     tie.close
     (tie.spec
     (λ c κs. search rules)

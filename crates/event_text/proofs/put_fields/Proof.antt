@@ -9,5 +9,5 @@ returns : tie.Need-returns
 unfolding words
 returns c = search (two_then, rules)
 
-pub put-fields-spec : {M : Type 1} → statement M
-put-fields-spec = tie.close (tie.spec (λ c κs. search rules) (λ c κs. search rules) (λ c. search rules) returns)
+pub put_fields_spec : {M : Type 1} → statement M
+put_fields_spec = tie.close (tie.spec (λ c κs. search rules) (λ c κs. search rules) (λ c. search rules) returns)

@@ -7,5 +7,5 @@ use Rattle.event_text.proofs.put_marked.Tie as tie
 returns : tie.Need-returns
 returns c = search (and_then, rules)
 
-pub put-marked-spec : {M : Type 1} → statement M
-put-marked-spec = tie.close (tie.spec (λ c κs. search rules) (λ c κs. search rules) (λ c. search rules) returns)
+pub put_marked_spec : {M : Type 1} → statement M
+put_marked_spec = tie.close (tie.spec (λ c κs. search rules) (λ c κs. search rules) (λ c. search rules) returns)

@@ -9,13 +9,11 @@ returns : tie.Need-returns
 unfolding words
 returns c = search (two_then, rules)
 
-pub put-put-spec : {M : Type 1} → statement M
-put-put-spec =
+pub put_put_spec : {M : Type 1} → statement M
+put_put_spec =
     tie.close
     (tie.spec
-    (λ c. search rules)
     (λ c κs. search rules)
-    (λ c. search rules)
     (λ c κs. search rules)
     (λ c κs. search rules)
     (λ c. search rules)

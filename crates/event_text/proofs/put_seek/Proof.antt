@@ -10,13 +10,11 @@ returns : tie.Need-returns
 unfolding words
 returns c = search (two_then, and_then, rules)
 
-pub put-seek-spec : {M : Type 1} → statement M
-put-seek-spec =
+pub put_seek_spec : {M : Type 1} → statement M
+put_seek_spec =
     tie.close
     (tie.spec
-    (λ c. search rules)
     (λ c κs. search rules)
-    (λ c. search rules)
     (λ c κs. search rules)
     (λ c κs. search rules)
     (λ c. search rules)

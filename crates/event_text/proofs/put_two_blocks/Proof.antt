@@ -7,6 +7,6 @@ use Rattle.event_text.proofs.put_two_blocks.Tie as tie
 returns : tie.Need-returns
 returns c = search (and_then, rules)
 
-pub put-two-blocks-spec : {M : Type 1} → statement M
-put-two-blocks-spec =
+pub put_two_blocks_spec : {M : Type 1} → statement M
+put_two_blocks_spec =
     tie.close (tie.spec (λ c κs. search rules) (λ c κs. search rules) (λ c. search rules) returns)

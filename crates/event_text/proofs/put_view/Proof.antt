@@ -9,15 +9,12 @@ returns : tie.Need-returns
 unfolding words
 returns c = search (two_then, rules)
 
-pub put-view-spec : {M : Type 1} → statement M
-put-view-spec =
+pub put_view_spec : {M : Type 1} → statement M
+put_view_spec =
     tie.close
     (tie.spec
-    (λ c. search rules)
     (λ c κs. search rules)
-    (λ c. search rules)
     (λ c κs. search rules)
-    (λ c. search rules)
     (λ c κs. search rules)
     (λ c κs. search rules)
     (λ c. search rules)

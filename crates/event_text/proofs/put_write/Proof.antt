@@ -9,6 +9,10 @@ returns : tie.Need-returns
 unfolding words
 returns c = search (two_then, rules)
 
-pub put-write-spec : {M : Type 1} → statement M
-put-write-spec =
-    tie.close (tie.spec (λ c. search rules) (λ c κs. search rules) (λ c κs. search rules) (λ c. search rules) returns)
+pub put_write_spec : {M : Type 1} → statement M
+put_write_spec =
+    tie.close (tie.spec
+    (λ c κs. search rules)
+    (λ c κs. search rules)
+    (λ c. search rules)
+    returns)

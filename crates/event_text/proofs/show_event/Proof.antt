@@ -7,5 +7,5 @@ use Rattle.event_text.proofs.show_event.Tie as tie
 returns : tie.Need-returns
 returns c = search (and_then, rules)
 
-pub show-event-spec : {M : Type 1} → statement M
-show-event-spec = tie.close (tie.spec (λ c κs. search rules) (λ c κs. search rules) (λ c. search rules) returns)
+pub show_event_spec : {M : Type 1} → statement M
+show_event_spec = tie.close (tie.spec (λ c κs. search rules) (λ c κs. search rules) (λ c. search rules) returns)

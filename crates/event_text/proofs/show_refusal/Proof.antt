@@ -9,12 +9,11 @@ returns : tie.Need-returns
 unfolding words
 returns c = search (and_then, rules)
 
-pub show-refusal-spec : {M : Type 1} → statement M
-show-refusal-spec =
+pub show_refusal_spec : {M : Type 1} → statement M
+show_refusal_spec =
     tie.close
     (tie.spec
     (λ c κs. search rules)
-    (λ c. search rules)
     (λ c κs. search rules)
     (λ c κs. search rules)
     (λ c κs. search rules)

@@ -5,51 +5,39 @@ use borrow.Author.Rules.{rules}
 use Rattle.kind_text.proofs.put_looked.Statement.{statement}
 use Rattle.kind_text.proofs.put_looked.Tie as tie
 
-put-record-requires : tie.Need-put-record-requires
+put-record-requires : tie.Need-put_record-requires
 put-record-requires c κs =
-    let told = c.before.before in
-    let s = told.before.before.before in
-    room s.args.answer s.args.at s.well-formed.1.1.0 s.requires (recorded told.answer.given.1)
+    room c.args.answer c.args.at c.well_formed.1.1.0 c.requires (recorded c.in-Record.is)
 
-put-refused-requires : tie.Need-put-refused-requires
+put-refused-requires : tie.Need-put_refused-requires
 put-refused-requires c κs =
-    let told = c.before.before in
-    let s = told.before.before.before in
-    room s.args.answer s.args.at s.well-formed.1.1.0 s.requires (refused told.answer2.given.1)
+    room c.args.answer c.args.at c.well_formed.1.1.0 c.requires (refused c.in-Refused.is)
 
-put-values-requires : tie.Need-put-values-requires
-put-values-requires c κs = let s = c.before.before.before in room s.args.answer s.args.at s.well-formed.1.1.0 s.requires refl
+put-values-requires : tie.Need-put_values-requires
+put-values-requires c κs = room c.args.answer c.args.at c.well_formed.1.1.0 c.requires refl
 
-returns : tie.Need-returns
+returns : tie.Need-returns-in-Record
 returns c =
-    let call = c.before.before in
-    let told = call.before.before.before in
-    put told.before.before.before.well-formed.1.1.0 (recorded told.answer.given.1) call.put_record.ensures
+    put c.well_formed.1.1.0 (recorded c.in-Record.is) c.put_record.ensures
 
-returns-2 : tie.Need-returns-2
+returns-2 : tie.Need-returns-in-None
 returns-2 c =
-    let call = c.before.before in
-    let told = call.before.before.before in
-    put_word told.before.before.before.well-formed.1.1.0 (none told.enum_told.given.1) call.put_word.ensures
+    put_word c.well_formed.1.1.0 (none c.in-None.is) c.put_word.ensures
 
-returns-3 : tie.Need-returns-3
+returns-3 : tie.Need-returns-in-Refused
 returns-3 c =
-    let call = c.before.before in
-    let told = call.before.before.before in
-    put told.before.before.before.well-formed.1.1.0 (refused told.answer2.given.1) call.Put-refused.ensures
+    put c.well_formed.1.1.0 (refused c.in-Refused.is) c.put_refused.ensures
 
-returns-4 : tie.Need-returns-4
+returns-4 : tie.Need-returns-in_default
 returns-4 c =
-    let call = c.before.before in
-    put call.before.before.before.before.well-formed.1.1.0 refl call.put-values.ensures
+    put c.well_formed.1.1.0 refl c.put_values.ensures
 
-pub put-looked-spec : {M : Type 1} → statement M
-put-looked-spec =
+pub put_looked_spec : {M : Type 1} → statement M
+put_looked_spec =
     tie.close
     (tie.spec
     (λ c. search rules)
     put-record-requires
-    (λ c. search rules)
     (λ c. search rules)
     (λ c κs. search rules)
     (λ c. search rules)

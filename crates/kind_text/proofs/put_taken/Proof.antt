@@ -5,41 +5,31 @@ use borrow.Author.Rules.{rules}
 use Rattle.kind_text.proofs.put_taken.Statement.{statement}
 use Rattle.kind_text.proofs.put_taken.Tie as tie
 
-put-region-requires : tie.Need-put-region-requires
+put-region-requires : tie.Need-put_region-requires
 put-region-requires c κs =
-    let told = c.before.before.before.before in
-    let s = told.before.before.before in
-    room s.args.answer s.args.at s.well-formed.1.1.0 s.requires (region told.answer.given.1 c.before.wide32.ensures c.wide16.ensures)
+    room c.args.answer c.args.at c.well_formed.1.1.0 c.requires (region c.in-Region.is c.wide32.ensures c.wide16.ensures)
 
-put-refused-requires : tie.Need-put-refused-requires
+put-refused-requires : tie.Need-put_refused-requires
 put-refused-requires c κs =
-    let told = c.before.before in
-    let s = told.before.before.before in
-    room s.args.answer s.args.at s.well-formed.1.1.0 s.requires (refused told.answer2.given.1)
+    room c.args.answer c.args.at c.well_formed.1.1.0 c.requires (refused c.in-Refused.is)
 
-put-values-requires : tie.Need-put-values-requires
-put-values-requires c κs = let s = c.before.before.before in room s.args.answer s.args.at s.well-formed.1.1.0 s.requires refl
+put-values-requires : tie.Need-put_values-requires
+put-values-requires c κs = room c.args.answer c.args.at c.well_formed.1.1.0 c.requires refl
 
-returns : tie.Need-returns
+returns : tie.Need-returns-in-Region
 returns c =
-    let call = c.before.before in
-    let wide = call.before in
-    let told = wide.before.before.before.before in
-    put told.before.before.before.well-formed.1.1.0 (region told.answer.given.1 wide.before.wide32.ensures wide.wide16.ensures) call.put-region.ensures
+    put c.well_formed.1.1.0 (region c.in-Region.is c.wide32.ensures c.wide16.ensures) c.put_region.ensures
 
-returns-2 : tie.Need-returns-2
+returns-2 : tie.Need-returns-in-Refused
 returns-2 c =
-    let call = c.before.before in
-    let told = call.before.before.before in
-    put told.before.before.before.well-formed.1.1.0 (refused told.answer2.given.1) call.Put-refused.ensures
+    put c.well_formed.1.1.0 (refused c.in-Refused.is) c.put_refused.ensures
 
-returns-3 : tie.Need-returns-3
+returns-3 : tie.Need-returns-in_default
 returns-3 c =
-    let call = c.before.before in
-    put call.before.before.before.before.well-formed.1.1.0 refl call.put-values.ensures
+    put c.well_formed.1.1.0 refl c.put_values.ensures
 
-pub put-taken-spec : {M : Type 1} → statement M
-put-taken-spec =
+pub put_taken_spec : {M : Type 1} → statement M
+put_taken_spec =
     tie.close
     (tie.spec
     (λ c. search rules)

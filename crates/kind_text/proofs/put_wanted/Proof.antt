@@ -5,54 +5,40 @@ use borrow.Author.Rules.{rules}
 use Rattle.kind_text.proofs.put_wanted.Statement.{statement}
 use Rattle.kind_text.proofs.put_wanted.Tie as tie
 
-put-one-requires : tie.Need-put-one-requires
+put-one-requires : tie.Need-put_one-requires
 put-one-requires c κs =
-    let told = c.before.before.before.before in
-    let s = told.before.before.before in
-    room s.args.answer s.args.at s.well-formed.1.1.0 s.requires (holds told.answer.given.1 c.wide32.ensures)
+    room c.args.answer c.args.at c.well_formed.1.1.0 c.requires (holds c.in-Holds.is c.wide32.ensures)
 
-put-refused-requires : tie.Need-put-refused-requires
+put-refused-requires : tie.Need-put_refused-requires
 put-refused-requires c κs =
-    let told = c.before.before in
-    let s = told.before.before.before in
-    room s.args.answer s.args.at s.well-formed.1.1.0 s.requires (refused told.answer2.given.1)
+    room c.args.answer c.args.at c.well_formed.1.1.0 c.requires (refused c.in-Refused.is)
 
-put-values-requires : tie.Need-put-values-requires
-put-values-requires c κs = let s = c.before.before.before in room s.args.answer s.args.at s.well-formed.1.1.0 s.requires refl
+put-values-requires : tie.Need-put_values-requires
+put-values-requires c κs = room c.args.answer c.args.at c.well_formed.1.1.0 c.requires refl
 
-returns : tie.Need-returns
+returns : tie.Need-returns-in-Holds
 returns c =
-    let call = c.before.before in
-    let wide = call.before in
-    let told = wide.before.before.before.before in
-    put told.before.before.before.well-formed.1.1.0 (holds told.answer.given.1 wide.wide32.ensures) call.put_one.ensures
+    put c.well_formed.1.1.0 (holds c.in-Holds.is c.wide32.ensures) c.put_one.ensures
 
-returns-2 : tie.Need-returns-2
+returns-2 : tie.Need-returns-in-Waits
 returns-2 c =
-    let call = c.before.before in
-    let told = call.before.before.before in
-    put_word told.before.before.before.well-formed.1.1.0 (waits told.enum_told.given.1) call.put_word.ensures
+    put_word c.well_formed.1.1.0 (waits c.in-Waits.is) c.put_word.ensures
 
-returns-3 : tie.Need-returns-3
+returns-3 : tie.Need-returns-in-Refused
 returns-3 c =
-    let call = c.before.before in
-    let told = call.before.before.before in
-    put told.before.before.before.well-formed.1.1.0 (refused told.answer2.given.1) call.Put-refused.ensures
+    put c.well_formed.1.1.0 (refused c.in-Refused.is) c.put_refused.ensures
 
-returns-4 : tie.Need-returns-4
+returns-4 : tie.Need-returns-in_default
 returns-4 c =
-    let call = c.before.before in
-    put call.before.before.before.before.well-formed.1.1.0 refl call.put-values.ensures
+    put c.well_formed.1.1.0 refl c.put_values.ensures
 
-pub put-wanted-spec : {M : Type 1} → statement M
-put-wanted-spec =
+pub put_wanted_spec : {M : Type 1} → statement M
+put_wanted_spec =
     tie.close
     (tie.spec
     (λ c. search rules)
-    (λ c. search rules)
     (λ c κs. search rules)
     put-one-requires
-    (λ c. search rules)
     (λ c. search rules)
     (λ c κs. search rules)
     (λ c. search rules)

@@ -7,27 +7,27 @@ use borrow.Author.Rules.{rules}
 use Rattle.lane_calls.proofs.decide.Statement.{statement}
 use Rattle.lane_calls.proofs.decide.Tie as tie
 
-returns : tie.Need-returns
+returns : tie.Need-returns-then-missing-ne0
 unfolding decided_change
 returns c =
-    let m = c.before.before in
-    let a = m.before.before.args in
+    let m = c in
+    let a = m.args in
     record {
-      is = c.refuse.ensures ∙ rw m.missing-lane.ensures (sym (lane_missing a.seen a.lane _ (λ z. c.before.if1.true (m.missing-lane.ensures ∙ z))));
+      is = c.refuse.ensures ∙ rw m.missing_lane-missing.ensures (sym (lane_missing a.seen a.lane _ (λ z. c.if-missing-ne0.true (m.missing_lane-missing.ensures ∙ z))));
       book_left = rw c.refuse.ensures (refused_book a.call a.book.now _);
     }
 
-returns-2 : tie.Need-returns-2
+returns-2 : tie.Need-returns
 unfolding decided_change
 returns-2 c =
     let d = c.before.before in
     let e = d.before.before in
-    let m = e.before in
-    let a = m.before.before.args in
-    record { is = d.decide-at.ensures.is ∙ sym (lane_there a.seen a.lane _ (sym m.missing-lane.ensures ∙ e.if1.false)); book_left = d.decide-at.ensures.book_left }
+    let m = e in
+    let a = m.args in
+    record { is = d.decide_at.ensures.is ∙ sym (lane_there a.seen a.lane _ (sym m.missing_lane-missing.ensures ∙ e.if-missing-ne0.false)); book_left = d.decide_at.ensures.book_left }
 
-pub decide-spec : {M : Type 1} → statement M
-decide-spec =
+pub decide_spec : {M : Type 1} → statement M
+decide_spec =
     tie.close
     (tie.spec
     (λ c κs. search rules)

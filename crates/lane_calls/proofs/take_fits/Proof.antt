@@ -4,7 +4,7 @@ use Rattle.lane_calls.proofs.take_fits.Statement.{statement}
 use Rattle.lane_calls.proofs.take_fits.Tie as tie
 
 returns : tie.Need-returns
-returns c = rw (← c.before.IsPlace-in.ensures) c.fits2.ensures
+returns c = rw (← c.place_in.ensures) c.fits.ensures
 
-pub take-fits-spec : {M : Type 1} → statement M
-take-fits-spec = tie.close (tie.spec (λ c κs. search rules) (λ c κs. search rules) returns)
+pub take_fits_spec : {M : Type 1} → statement M
+take_fits_spec = tie.close (tie.spec (λ c κs. search rules) (λ c κs. search rules) returns)

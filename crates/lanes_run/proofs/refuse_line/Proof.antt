@@ -6,31 +6,29 @@ use borrow.Author.Rules.{rules}
 use Rattle.lanes_run.proofs.refuse_line.Statement.{statement}
 use Rattle.lanes_run.proofs.refuse_line.Tie as tie
 
-returns : tie.Need-returns
-returns c some = absurd (some c.none-refused.ensures)
+returns : tie.Need-returns-in_default
+returns c some = absurd (some c.none_refused.ensures)
 
-returns-2 : tie.Need-returns-2
-returns-2 c some = absurd (some c.none-refused2.ensures)
+returns-2 : tie.Need-returns-in_default-scope
+returns-2 c some = absurd (some c.none_refused-in_default-scope.ensures)
 
-returns-3 : tie.Need-returns-3
+returns-3 : tie.Need-returns
 returns-3 c some =
-    let scope = c.before.before.before.before in
-    let scoped = scope.before.before in
-    let told = scoped.before.before in
-    let step = told.before.before.event-at.ensures in
-    let reading = sym (ap (λ (s : Step). s.reading) step) ∙ told.reading.given.1 in
+    let scope = c.before.before.before in
+    let step = scope.event_at-step.ensures in
+    let reading = sym (ap (λ (s : Step). s.reading) step) ∙ scope.in-Event.is in
     record {
-      event = told.reading.given.0.0;
-      next = told.reading.given.0.1.0;
-      call = scope.scope.given.0.0;
+      event = scope.in-Event.event;
+      next = scope.in-Event.next;
+      call = scope.in-Line.call;
       read = reading;
-      scope = sym scoped.scope_of.ensures ∙ scope.scope.given.1;
-      number = c.refusal-of.ensures;
+      scope = sym scope.scope_of-scope.ensures ∙ scope.in-Line.is;
+      number = c.refusal_of-number.ensures;
       past = ap (λ (s : Step). s.at) step ∙ ap (after_reading _) reading;
     }
 
-pub refuse-line-spec : {M : Type 1} → statement M
-refuse-line-spec =
+pub refuse_line_spec : {M : Type 1} → statement M
+refuse_line_spec =
     tie.close
     (tie.spec
     (λ c κs. search rules)

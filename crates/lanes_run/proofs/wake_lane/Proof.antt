@@ -6,7 +6,7 @@ use Rattle.lanes_run.proofs.wake_lane.Statement.{statement}
 use Rattle.lanes_run.proofs.wake_lane.Tie as tie
 
 returns : tie.Need-returns
-returns c = ap lane c.wake-with.ensures
+returns c = ap lane c.wake_with.ensures
 
-pub wake-lane-spec : {M : Type 1} → statement M
-wake-lane-spec = tie.close (tie.spec (λ c κs. search rules) returns)
+pub wake_lane_spec : {M : Type 1} → statement M
+wake_lane_spec = tie.close (tie.spec (λ c κs. search rules) returns)

@@ -9,27 +9,25 @@ use Rattle.setup_calls.specs.Setup.{view_refusal}
 use Rattle.line_calls.proofs.refusal_of.Statement.{statement}
 use Rattle.line_calls.proofs.refusal_of.Tie as tie
 
-returns : tie.Need-returns
-returns c = rw c.before.before.call.given.1 c.open-refusal.ensures
+returns : tie.Need-returns-in-Open
+returns c = rw c.in-Open.is c.open_refusal.ensures
 
-returns-2 : tie.Need-returns-2
-returns-2 c = rw c.enum_told.given.1
+returns-2 : tie.Need-returns-in-Enter
+returns-2 c = rw c.in-Enter.is
 
-returns-3 : tie.Need-returns-3
+returns-3 : tie.Need-returns-in-View
 returns-3 c =
-    let told = c.before.before.before in
-    let a = told.before.before.args in
-    rw told.call2.given.1 (c.view-refusal.ensures ∙ ap (λ (v : View). view_refusal a.lanes a.capacity v a.idle) c.before.view_of.ensures)
+    let a = c.args in
+    rw c.in-View.is (c.view_refusal.ensures ∙ ap (λ (v : View). view_refusal a.lanes a.capacity v a.idle) c.view_of-asked.ensures)
 
-returns-4 : tie.Need-returns-4
+returns-4 : tie.Need-returns-in-Seek
 returns-4 c =
-    let told = c.before.before in
-    let z = told.call3.given.0.1.0 in
-    let fits : SFits w32 z = record { sfits = c.before.known-told3.given.1.0.1 } in
-    rw told.call3.given.1 (rw (to_z-of_z fits) at c.seek-refusal.ensures)
+    let z = c.in-Seek.offset in
+    let fits : SFits w32 z = record { sfits = c.in-Seek.known_told-in-Seek-1-own.given.1.0.1 } in
+    rw c.in-Seek.is (rw (to_z-of_z fits) at c.seek_refusal.ensures)
 
-pub refusal-of-spec : {M : Type 1} → statement M
-refusal-of-spec =
+pub refusal_of_spec : {M : Type 1} → statement M
+refusal_of_spec =
     tie.close
     (tie.spec
     (λ c. search rules)

@@ -5,20 +5,20 @@ use borrow.Author.Rules.{rules}
 use Rattle.line_number.proofs.of_digits.Statement.{statement}
 use Rattle.line_number.proofs.of_digits.Tie as tie
 
-mul-t7 : tie.Need-overflow-mul-t7
+mul-t7 : tie.Need-overflow_mul-result
 mul-t7 c = omega (arith, (digits_fit c.requires.0).text)
 
-add-t8 : tie.Need-overflow-add-t8
+add-t8 : tie.Need-overflow_add-result-2
 add-t8 c = omega (arith, (digits_fit c.requires.0).text)
 
-mul-t9 : tie.Need-overflow-mul-t9
+mul-t9 : tie.Need-overflow_mul-result-2
 mul-t9 c = omega (arith, (digits_fit c.requires.0).word)
 
-mul-t10 : tie.Need-overflow-mul-t10
+mul-t10 : tie.Need-overflow_mul-result-3
 mul-t10 c = omega (arith, (digits_fit c.requires.0).unit)
 
 returns : tie.Need-returns
 returns c = digits_kept c.requires.0 c.requires.1
 
-pub of-digits-spec : {M : Type 1} → statement M
-of-digits-spec = tie.close (tie.spec (λ c. search rules) mul-t7 add-t8 mul-t9 mul-t10 returns)
+pub of_digits_spec : {M : Type 1} → statement M
+of_digits_spec = tie.close (tie.spec (λ c. search rules) mul-t7 add-t8 mul-t9 mul-t10 returns)

@@ -14,32 +14,29 @@ use Rattle.line_number.proofs.put_line_number.Tie as tie
 short : (s : tie.Start) → length (decimal (number_in s.args.own)) ≤ 20
 short s = few_digits 19 (number_in s.args.own) (omega arith)
 
-put-number-requires : tie.Need-put-number-requires
+put-number-requires : tie.Need-put_number-requires
 put-number-requires c κs =
-    let s = c.before.before.before.before.before in
-    rw c.number_of_lem.ensures (omega (arith, short s, s.requires.1))
+    rw c.number_of.ensures (omega (arith, short c.before.before.before.before.before, c.requires.1))
 
-returns : tie.Need-returns
-returns c = numbered_plain (rw c.before.before.before.number_of_lem.ensures at c.before.before.put-number.ensures)
+returns : tie.Need-returns-then-own-eq0
+returns c = numbered_plain (rw c.number_of.ensures at c.put_number.ensures)
 
 -- past the test there are bytes
-in_bytes : (e : tie.Else1) →
-    let own = e.before.before.before.args.own in
+in_bytes : (e : tie.Else-own-eq0) →
+    let own = e.args.own in
     InBytes (number_in own) own
-in_bytes e = ⊎_elim (λ b. absurd (e.if1.false b.width)) (λ b. b) e.before.before.before.requires.0.bytes
+in_bytes e = ⊎_elim (λ b. absurd (e.if-own-eq0.false b.width)) (λ b. b) e.requires.0.bytes
 
-add-result : tie.Need-overflow-add-result
+add-result : tie.Need-overflow_add-result
 add-result c =
-    let e = c.before.before.before.before.before in
-    omega (arith, (in_bytes e).most, e.before.before.before.requires.1)
+    omega (arith, (in_bytes c.before.before.before.before.before).most, c.requires.1)
 
-returns-2 : tie.Need-returns-2
+returns-2 : tie.Need-returns
 returns-2 c =
-    let call = c.before.before.before in
-    numbered_word (in_bytes call.before.before) call.put-u64.ensures
+    numbered_word (in_bytes c.before.before.before.before.before) c.put_u64.ensures
 
-pub put-line-number-spec : {M : Type 1} → statement M
-put-line-number-spec =
+pub put_line_number_spec : {M : Type 1} → statement M
+put_line_number_spec =
     tie.close
     (tie.spec
     (λ c κs. search rules)

@@ -8,5 +8,5 @@ use Rattle.line_number.proofs.without_bytes.Tie as tie
 returns : tie.Need-returns
 returns c = record { number = refl; left = c.requires.0; bytes = inl (record { word = refl; width = refl; unit = refl }) }
 
-pub without-bytes-spec : {M : Type 1} → statement M
-without-bytes-spec = tie.close (tie.spec (λ c. search rules) returns)
+pub without_bytes_spec : {M : Type 1} → statement M
+without_bytes_spec = tie.close (tie.spec (λ c. search rules) returns)

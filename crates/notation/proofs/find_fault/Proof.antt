@@ -9,47 +9,46 @@ use borrow.Author.Rules.{rules}
 use Rattle.notation.proofs.find_fault.Statement.{statement}
 use Rattle.notation.proofs.find_fault.Tie as tie
 
-abbrev invariant-loop : tie.invariant-loop
+abbrev invariant-loop : tie.invariant-loop-i
 invariant-loop text state₀ i₀ state i = (fault_from i state (drop i text) ≡ fault_of text) × (state.high ≤ 16) × (i ≤ length text)
 
-abbrev decreases-loop : tie.decreases-loop
+abbrev decreases-loop : tie.decreases-loop-i
 decreases-loop text state₀ i₀ state i = length text - i
 
-loop-holds : tie.Need-loop-init invariant-loop decreases-loop
+loop-holds : tie.Need-loop-i-init invariant-loop decreases-loop
 loop-holds c = (refl, omega arith, omega arith)
 
-step-requires : tie.Need-step-requires invariant-loop decreases-loop
-step-requires c κs = c.before.before.loop.invariant.1
+step-requires : tie.Need-step-next-requires invariant-loop decreases-loop
+step-requires c κs = c.loop-i.invariant.1
 
-returns : tie.Need-returns invariant-loop decreases-loop
+returns : tie.Need-returns-then-next invariant-loop decreases-loop
 returns c =
-    let called = c.before.before in
-    let lp = called.before.before.before.loop in
-    let text = called.before.before.before.before.before.args.text.now in
-    let here = fault_here lp.state text lp.i called.before.before.loop-test.true _ called.step.ensures.0 c.before.if1.true in
+    let lp = c.loop-i in
+    let text = c.args.text.now in
+    let here = fault_here lp.state text lp.i c.loop-i-test.true _ c.step-next.ensures.0 c.if-next.true in
     c.missing_at.ensures ∙ sym here ∙ lp.invariant.0
 
-loop-again : tie.Need-loop-preserved invariant-loop decreases-loop
+loop-again : tie.Need-loop-i-preserved invariant-loop decreases-loop
 loop-again c =
-    let lp = c.before.before.before.before.loop in
-    let text = c.before.before.before.before.before.before.args.text.now in
-    let more = fault_more lp.state text lp.i c.before.before.before.loop-test.true _ c.before.step.ensures.0 c.if1.false in
-    (sym more ∙ lp.invariant.0, c.before.step.ensures.1, omega arith)
+    let lp = c.loop-i in
+    let text = c.args.text.now in
+    let more = fault_more lp.state text lp.i c.loop-i-test.true _ c.step-next.ensures.0 c.if-next.false in
+    (sym more ∙ lp.invariant.0, c.step-next.ensures.1, omega arith)
 
-returns-2 : tie.Need-returns-2 invariant-loop decreases-loop
+returns-2 : tie.Need-returns-then-state-eq-NONE invariant-loop decreases-loop
 returns-2 c =
-    let lp = c.before.before.before.loop in
-    let text = c.before.before.before.before.before.args.text.now in
-    sym (fault_none lp.state text lp.i c.before.before.loop-test.false c.if2.true) ∙ lp.invariant.0
+    let lp = c.loop-i in
+    let text = c.args.text.now in
+    sym (fault_none lp.state text lp.i c.loop-i-test.false c.if-state-eq-NONE.true) ∙ lp.invariant.0
 
-returns-3 : tie.Need-returns-3 invariant-loop decreases-loop
+returns-3 : tie.Need-returns invariant-loop decreases-loop
 returns-3 c =
-    let lp = c.before.before.before.loop in
-    let text = c.before.before.before.before.before.args.text.now in
-    sym (fault_second lp.state text lp.i c.before.before.loop-test.false c.if2.false) ∙ lp.invariant.0
+    let lp = c.loop-i in
+    let text = c.args.text.now in
+    sym (fault_second lp.state text lp.i c.loop-i-test.false c.if-state-eq-NONE.false) ∙ lp.invariant.0
 
-pub find-fault-spec : {M : Type 1} → statement M
-find-fault-spec =
+pub find_fault_spec : {M : Type 1} → statement M
+find_fault_spec =
     tie.close
     (tie.spec
     invariant-loop

@@ -11,7 +11,7 @@ use borrow.Author.Rules.{rules}
 use Rattle.notation.proofs.put_bytes.Statement.{statement}
 use Rattle.notation.proofs.put_bytes.Tie as tie
 
-abbrev invariant-loop : tie.invariant-loop
+abbrev invariant-loop : tie.invariant-loop-i
 invariant-loop text out₀ state₀ end₀ i₀ out state end i =
     (sets out end (bytes_from state (drop i text)) ≡ sets out₀ 0 (notation_bytes text))
     × (end + length (bytes_from state (drop i text)) ≡ length (notation_bytes text))
@@ -19,50 +19,46 @@ invariant-loop text out₀ state₀ end₀ i₀ out state end i =
     × (state.high ≤ 16)
     × (i ≤ length text)
 
-abbrev decreases-loop : tie.decreases-loop
+abbrev decreases-loop : tie.decreases-loop-i
 decreases-loop text out₀ state₀ end₀ i₀ out state end i = length text - i
 
-loop-holds : tie.Need-loop-init invariant-loop decreases-loop
+loop-holds : tie.Need-loop-i-init invariant-loop decreases-loop
 loop-holds c = (refl, omega arith, refl, omega arith, omega arith)
 
-step-requires : tie.Need-step-requires invariant-loop decreases-loop
-step-requires c κs = c.before.before.loop.invariant.3
+step-requires : tie.Need-step-state-requires invariant-loop decreases-loop
+step-requires c κs = c.loop-i.invariant.3
 
-put-made-requires : tie.Need-put-made-requires invariant-loop decreases-loop
+put-made-requires : tie.Need-put_made-end-requires invariant-loop decreases-loop
 put-made-requires c κs =
-    let lp = c.before.before.before.before.loop in
-    let s = c.before.before.before.before.before.before.before in
-    let more = length_more lp.state s.args.text.now lp.i c.before.before.before.loop-test.true _ c.before.step.ensures.0 in
-    omega (arith, more, lp.invariant.1, lp.invariant.2, s.requires)
+    let lp = c.loop-i in
+    let more = length_more lp.state c.args.text.now lp.i c.loop-i-test.true _ c.step-state.ensures.0 in
+    omega (arith, more, lp.invariant.1, lp.invariant.2, c.requires)
 
-loop-again : tie.Need-loop-preserved invariant-loop decreases-loop
+loop-again : tie.Need-loop-i-preserved invariant-loop decreases-loop
 loop-again c =
-    let put = c.before.before in
-    let called = put.before.before in
-    let lp = called.before.before.before.loop in
-    let s = called.before.before.before.before.before.before in
-    let text = s.args.text.now in
-    let taken = called.before.before.loop-test.true in
-    let r = called.step.result in
+    let lp = c.loop-i in
+    let text = c.args.text.now in
+    let taken = c.loop-i-test.true in
+    let r = c.step-state.result in
     let rest = bytes_from r (drop (lp.i + 1) text) in
-    let more = bytes_more lp.state text lp.i taken r called.step.ensures.0 in
-    let longer = length_more lp.state text lp.i taken r called.step.ensures.0 in (
-      rw (put.put-made.ensures.bytes, put.put-made.ensures.ends) (sets_append (made_of r) rest lp.out lp.end ∙ ap (sets lp.out lp.end) (sym more) ∙ lp.invariant.0),
-      omega (arith, longer, lp.invariant.1, put.put-made.ensures.ends),
+    let more = bytes_more lp.state text lp.i taken r c.step-state.ensures.0 in
+    let longer = length_more lp.state text lp.i taken r c.step-state.ensures.0 in (
+      rw (c.put_made-end.ensures.bytes, c.put_made-end.ensures.ends) (sets_append (made_of r) rest lp.out lp.end ∙ ap (sets lp.out lp.end) (sym more) ∙ lp.invariant.0),
+      omega (arith, longer, lp.invariant.1, c.put_made-end.ensures.ends),
       omega (arith, lp.invariant.2),
-      called.step.ensures.1,
+      c.step-state.ensures.1,
       omega arith,
     )
 
 returns : tie.Need-returns invariant-loop decreases-loop
 returns c =
-    let lp = c.before.loop in
-    let text = c.before.before.before.before.args.text.now in
-    let none = bytes_end lp.state text lp.i c.loop-test.false in
+    let lp = c.loop-i in
+    let text = c.args.text.now in
+    let none = bytes_end lp.state text lp.i c.loop-i-test.false in
     record { bytes = rw none at lp.invariant.0; ends = omega (arith, ap length none, lp.invariant.1) }
 
-pub put-bytes-spec : {M : Type 1} → statement M
-put-bytes-spec =
+pub put_bytes_spec : {M : Type 1} → statement M
+put_bytes_spec =
     tie.close
     (tie.spec
     invariant-loop

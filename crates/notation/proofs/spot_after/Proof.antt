@@ -9,44 +9,44 @@ use borrow.Author.Rules.{rules}
 use Rattle.notation.proofs.spot_after.Statement.{statement}
 use Rattle.notation.proofs.spot_after.Tie as tie
 
-abbrev invariant-loop : tie.invariant-loop
+abbrev invariant-loop : tie.invariant-loop-i
 invariant-loop text spot₀ previous₀ i₀ spot previous i =
     (spot_from spot previous (drop i text) ≡ spot_of text)
     × (spot.line ≤ i + 1)
     × (spot.column ≤ i + 1)
     × (i ≤ length text)
 
-abbrev decreases-loop : tie.decreases-loop
+abbrev decreases-loop : tie.decreases-loop-i
 decreases-loop text spot₀ previous₀ i₀ spot previous i = length text - i
 
-loop-holds : tie.Need-loop-init invariant-loop decreases-loop
+loop-holds : tie.Need-loop-i-init invariant-loop decreases-loop
 loop-holds c = (refl, omega arith, omega arith, omega arith)
 
-spot-past-requires : tie.Need-spot-past-requires invariant-loop decreases-loop
+spot-past-requires : tie.Need-spot_past-spot-requires invariant-loop decreases-loop
 spot-past-requires c κs =
-    let lp = c.before.before.loop in
-    let short = c.before.before.before.before.requires in
-    (omega (arith, lp.invariant.1, c.before.loop-test.true, short), omega (arith, lp.invariant.2, c.before.loop-test.true, short))
+    let lp = c.loop-i in
+    let short = c.requires in
+    (omega (arith, lp.invariant.1, c.loop-i-test.true, short), omega (arith, lp.invariant.2, c.loop-i-test.true, short))
 
-loop-again : tie.Need-loop-preserved invariant-loop decreases-loop
+loop-again : tie.Need-loop-i-preserved invariant-loop decreases-loop
 loop-again c =
-    let lp = c.before.before.before.loop in
-    let text = c.before.before.before.before.before.args.text.now in
-    let more = spot_more lp.spot lp.previous text lp.i c.before.before.loop-test.true _ c.Spot-past.ensures.0 in (
+    let lp = c.loop-i in
+    let text = c.args.text.now in
+    let more = spot_more lp.spot lp.previous text lp.i c.loop-i-test.true _ c.spot_past-spot.ensures.0 in (
       sym more ∙ lp.invariant.0,
-      omega (arith, lp.invariant.1, c.Spot-past.ensures.1),
-      omega (arith, lp.invariant.2, c.Spot-past.ensures.2),
+      omega (arith, lp.invariant.1, c.spot_past-spot.ensures.1),
+      omega (arith, lp.invariant.2, c.spot_past-spot.ensures.2),
       omega arith,
     )
 
 returns : tie.Need-returns invariant-loop decreases-loop
 returns c =
-    let lp = c.before.loop in
-    let text = c.before.before.before.args.text.now in
-    sym (spot_end lp.spot lp.previous text lp.i c.loop-test.false) ∙ lp.invariant.0
+    let lp = c.loop-i in
+    let text = c.args.text.now in
+    sym (spot_end lp.spot lp.previous text lp.i c.loop-i-test.false) ∙ lp.invariant.0
 
-pub spot-after-spec : {M : Type 1} → statement M
-spot-after-spec =
+pub spot_after_spec : {M : Type 1} → statement M
+spot_after_spec =
     tie.close
     (tie.spec
     invariant-loop

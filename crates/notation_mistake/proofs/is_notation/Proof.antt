@@ -4,11 +4,11 @@ use borrow.Author.Rules.{rules}
 use Rattle.notation_mistake.proofs.is_notation.Statement.{statement}
 use Rattle.notation_mistake.proofs.is_notation.Tie as tie
 
-returns : tie.Need-returns
-returns c = rw (sym c.before.before.looks-like-notation.ensures ∙ c.before.if1.true, c.is_whole.ensures)
+returns : tie.Need-returns-then-looks_like_notation
+returns c = rw (sym c.looks_like_notation.ensures ∙ c.if-looks_like_notation.true, c.is_whole.ensures)
 
-returns-2 : tie.Need-returns-2
-returns-2 c = rw (sym c.before.looks-like-notation.ensures ∙ c.if1.false)
+returns-2 : tie.Need-returns
+returns-2 c = rw (sym c.looks_like_notation.ensures ∙ c.if-looks_like_notation.false)
 
-pub is-notation-spec : {M : Type 1} → statement M
-is-notation-spec = tie.close (tie.spec (λ c κs. search rules) (λ c κs. search rules) returns returns-2)
+pub is_notation_spec : {M : Type 1} → statement M
+is_notation_spec = tie.close (tie.spec (λ c κs. search rules) (λ c κs. search rules) returns returns-2)

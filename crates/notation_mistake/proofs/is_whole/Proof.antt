@@ -9,40 +9,30 @@ use Rattle.notation_mistake.proofs.Whole.{Reached, ends, further, starts}
 use Rattle.notation_mistake.proofs.is_whole.Statement.{statement}
 use Rattle.notation_mistake.proofs.is_whole.Tie as tie
 
-abbrev invariant-loop : tie.invariant-loop
+abbrev invariant-loop : tie.invariant-loop-next
 invariant-loop sheet at₀ at = Reached sheet at
 
-abbrev decreases-loop : tie.decreases-loop
+abbrev decreases-loop : tie.decreases-loop-next
 decreases-loop sheet at₀ at = length sheet - at
 
-loop-holds : tie.Need-loop-init invariant-loop decreases-loop
+loop-holds : tie.Need-loop-next-init invariant-loop decreases-loop
 loop-holds c = starts _
 
-returns : tie.Need-returns invariant-loop decreases-loop
+returns : tie.Need-returns-in_default invariant-loop decreases-loop
 returns c =
-    let called = c.before.before in
-    let lp = called.before in
-    c.is-end.ensures ∙ ends lp.before.before.args.sheet.now lp.loop.at lp.loop.invariant called.read-event.result (sym called.read-event.ensures) c.before.match.keys2
+    c.is_end.ensures ∙ ends c.args.sheet.now c.loop-next.at c.loop-next.invariant c.read_event-reading.result (sym c.read_event-reading.ensures) c.in_default.in_default-own.keys2
 
-loop-less : tie.Need-loop-smaller invariant-loop decreases-loop
+loop-less : tie.Need-loop-next-smaller invariant-loop decreases-loop
 loop-less c =
-    let told = c.before in
-    let called = told.before.before in
-    let lp = called.before in
-    let got = told.reading.given in
-    let r = reads lp.before.before.args.sheet.now lp.loop.at got.0.0 got.0.1.0 (sym called.read-event.ensures ∙ got.1) in
-    omega (arith, lp.loop.invariant.inside, r.longer, r.within)
+    let r = reads c.args.sheet.now c.loop-next.at c.in-Event.event c.in-Event.next (sym c.read_event-reading.ensures ∙ c.in-Event.is) in
+    omega (arith, c.loop-next.invariant.inside, r.longer, r.within)
 
-loop-again : tie.Need-loop-preserved invariant-loop decreases-loop
+loop-again : tie.Need-loop-next-preserved invariant-loop decreases-loop
 loop-again c =
-    let told = c.before in
-    let called = told.before.before in
-    let lp = called.before in
-    let got = told.reading.given in
-    further lp.before.before.args.sheet.now lp.loop.at lp.loop.invariant got.0.0 got.0.1.0 (sym called.read-event.ensures ∙ got.1)
+    further c.args.sheet.now c.loop-next.at c.loop-next.invariant c.in-Event.event c.in-Event.next (sym c.read_event-reading.ensures ∙ c.in-Event.is)
 
-pub is-whole-spec : {M : Type 1} → statement M
-is-whole-spec =
+pub is_whole_spec : {M : Type 1} → statement M
+is_whole_spec =
     tie.close
     (tie.spec
     invariant-loop

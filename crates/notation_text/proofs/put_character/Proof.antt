@@ -6,87 +6,67 @@ use borrow.Author.Rules.{rules}
 use Rattle.notation_text.proofs.put_character.Statement.{statement}
 use Rattle.notation_text.proofs.put_character.Tie as tie
 
-returns : tie.Need-returns
+returns : tie.Need-returns-then-c-eq32
 unfolding character_line
 returns c =
-    let put = c.before.before in
-    let tests = put.before.before.before in
-    rw (eq-eqb _ _ tests.if1.true)
-    (put.put_word.ensures, omega (arith, put.put_word.ensures.ends))
+    rw (eq-eqb _ _ c.if-c-eq32.true)
+    (c.put_word.ensures, omega (arith, c.put_word.ensures.ends))
 
-returns-2 : tie.Need-returns-2
+returns-2 : tie.Need-returns-then-c-eq9
 unfolding character_line
 returns-2 c =
-    let put = c.before.before in
-    let tests = put.before.before.before in
-    rw (ne_eqb _ _ tests.before.if1.false, eq-eqb _ _ tests.if2.true)
-    (put.put-word2.ensures, omega (arith, put.put-word2.ensures.ends))
+    rw (ne_eqb _ _ c.if-c-eq32.false, eq-eqb _ _ c.if-c-eq9.true)
+    (c.put_word-then-c-eq9.ensures, omega (arith, c.put_word-then-c-eq9.ensures.ends))
 
-returns-3 : tie.Need-returns-3
+returns-3 : tie.Need-returns-then-c-eq44
 unfolding character_line
 returns-3 c =
-    let put = c.before.before in
-    let tests = put.before.before.before in
-    rw (ne_eqb _ _ tests.before.before.if1.false, ne_eqb _ _ tests.before.if2.false, eq-eqb _ _ tests.if3.true)
-    (put.put-word3.ensures, omega (arith, put.put-word3.ensures.ends))
+    rw (ne_eqb _ _ c.if-c-eq32.false, ne_eqb _ _ c.if-c-eq9.false, eq-eqb _ _ c.if-c-eq44.true)
+    (c.put_word-then-c-eq44.ensures, omega (arith, c.put_word-then-c-eq44.ensures.ends))
 
-returns-4 : tie.Need-returns-4
+returns-4 : tie.Need-returns-then-c-eq10
 unfolding character_line
 returns-4 c =
-    let put = c.before.before in
-    let tests = put.before.before.before in
-    rw (ne_eqb _ _ tests.before.before.before.if1.false, ne_eqb _ _ tests.before.before.if2.false, ne_eqb _ _ tests.before.if3.false, eq-eqb _ _ tests.if4.true)
-    (put.put-word4.ensures, omega (arith, put.put-word4.ensures.ends))
+    rw (ne_eqb _ _ c.if-c-eq32.false, ne_eqb _ _ c.if-c-eq9.false, ne_eqb _ _ c.if-c-eq44.false, eq-eqb _ _ c.if-c-eq10.true)
+    (c.put_word-then-c-eq10.ensures, omega (arith, c.put_word-then-c-eq10.ensures.ends))
 
-returns-5 : tie.Need-returns-5
+returns-5 : tie.Need-returns-then-c-eq13
 unfolding character_line
 returns-5 c =
-    let put = c.before.before in
-    let tests = put.before.before.before in
-    rw (ne_eqb _ _ tests.before.before.before.before.if1.false, ne_eqb _ _ tests.before.before.before.if2.false, ne_eqb _ _ tests.before.before.if3.false, ne_eqb _ _ tests.before.if4.false, eq-eqb _ _ tests.if5.true)
-    (put.put-word5.ensures, omega (arith, put.put-word5.ensures.ends))
+    rw (ne_eqb _ _ c.if-c-eq32.false, ne_eqb _ _ c.if-c-eq9.false, ne_eqb _ _ c.if-c-eq44.false, ne_eqb _ _ c.if-c-eq10.false, eq-eqb _ _ c.if-c-eq13.true)
+    (c.put_word-then-c-eq13.ensures, omega (arith, c.put_word-then-c-eq13.ensures.ends))
 
-returns-6 : tie.Need-returns-6
+returns-6 : tie.Need-returns-then-c-eq35
 unfolding character_line
 returns-6 c =
-    let put = c.before.before in
-    let tests = put.before.before.before in
-    rw (ne_eqb _ _ tests.before.before.before.before.before.if1.false, ne_eqb _ _ tests.before.before.before.before.if2.false, ne_eqb _ _ tests.before.before.before.if3.false, ne_eqb _ _ tests.before.before.if4.false, ne_eqb _ _ tests.before.if5.false, eq-eqb _ _ tests.if6.true)
-    (put.put-word6.ensures, omega (arith, put.put-word6.ensures.ends))
+    rw (ne_eqb _ _ c.if-c-eq32.false, ne_eqb _ _ c.if-c-eq9.false, ne_eqb _ _ c.if-c-eq44.false, ne_eqb _ _ c.if-c-eq10.false, ne_eqb _ _ c.if-c-eq13.false, eq-eqb _ _ c.if-c-eq35.true)
+    (c.put_word-then-c-eq35.ensures, omega (arith, c.put_word-then-c-eq35.ensures.ends))
 
-returns-7 : tie.Need-returns-7
+returns-7 : tie.Need-returns
 unfolding character_line
 returns-7 c =
-    let put = c.before.before in
-    let tests = put.before.before in
-    rw (ne_eqb _ _ tests.before.before.before.before.before.if1.false, ne_eqb _ _ tests.before.before.before.before.if2.false, ne_eqb _ _ tests.before.before.before.if3.false, ne_eqb _ _ tests.before.before.if4.false, ne_eqb _ _ tests.before.if5.false, ne_eqb _ _ tests.if6.false)
-    put.put_other.ensures
+    rw (ne_eqb _ _ c.if-c-eq32.false, ne_eqb _ _ c.if-c-eq9.false, ne_eqb _ _ c.if-c-eq44.false, ne_eqb _ _ c.if-c-eq10.false, ne_eqb _ _ c.if-c-eq13.false, ne_eqb _ _ c.if-c-eq35.false)
+    c.put_other.ensures
 
-pub put-character-spec : {M : Type 1} → statement M
-put-character-spec =
+pub put_character_spec : {M : Type 1} → statement M
+put_character_spec =
     tie.close
     (tie.spec
-    (λ c. search rules)
     (λ c κs. search rules)
     (λ c. search rules)
     returns
-    (λ c. search rules)
     (λ c κs. search rules)
     (λ c. search rules)
     returns-2
-    (λ c. search rules)
     (λ c κs. search rules)
     (λ c. search rules)
     returns-3
-    (λ c. search rules)
     (λ c κs. search rules)
     (λ c. search rules)
     returns-4
-    (λ c. search rules)
     (λ c κs. search rules)
     (λ c. search rules)
     returns-5
-    (λ c. search rules)
     (λ c κs. search rules)
     (λ c. search rules)
     returns-6

@@ -10,18 +10,15 @@ use Rattle.notation_text.proofs.put_kind.Tie as tie
 
 returns : tie.Need-returns
 returns c =
-    let said = c.before.before in
-    let put = said.before.before.before.before.before in
-    let a = put.before.before.before.args in
+    let a = c.args in
     let seam = append_assoc (hex_in 2 a.c) (58 ∷ []) (ascii " the text looks like a sheet's bytes already\n") in
-    (rw seam at (and_then put.put_byte.ensures.0 said.put_word.ensures), omega (arith, put.put_byte.ensures.1, said.put_word.ensures.ends))
+    (rw seam at (and_then c.put_byte-next.ensures.0 c.put_word.ensures), omega (arith, c.put_byte-next.ensures.1, c.put_word.ensures.ends))
 
-pub put-kind-spec : {M : Type 1} → statement M
-put-kind-spec =
+pub put_kind_spec : {M : Type 1} → statement M
+put_kind_spec =
     tie.close
     (tie.spec
     (λ c κs. search rules)
-    (λ c. search rules)
     (λ c κs. search rules)
     (λ c. search rules)
     returns)

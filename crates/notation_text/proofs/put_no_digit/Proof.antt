@@ -8,20 +8,16 @@ use Rattle.notation_text.proofs.put_no_digit.Tie as tie
 
 returns : tie.Need-returns
 unfolding parse_line
-returns c =
-    let found = c.before.before in
-    let expected = found.before.before.before.before in
-    let place = expected.before.before.before.before.before in (
-      and_then place.put-place.ensures.0 (and_then expected.put_word.ensures found.put-character.ensures.0),
-      omega (arith, place.put-place.ensures.1, expected.put_word.ensures.ends, found.put-character.ensures.1),
-    )
+returns c = (
+  and_then c.put_place-next.ensures.0 (and_then c.put_word-then.ensures c.put_character.ensures.0),
+  omega (arith, c.put_place-next.ensures.1, c.put_word-then.ensures.ends, c.put_character.ensures.1),
+)
 
-pub put-no-digit-spec : {M : Type 1} → statement M
-put-no-digit-spec =
+pub put_no_digit_spec : {M : Type 1} → statement M
+put_no_digit_spec =
     tie.close
     (tie.spec
     (λ c κs. search rules)
-    (λ c. search rules)
     (λ c κs. search rules)
     (λ c κs. search rules)
     (λ c. search rules)

@@ -5,38 +5,28 @@ use borrow.Author.Rules.{rules}
 use Rattle.notation_text.proofs.put_other.Statement.{statement}
 use Rattle.notation_text.proofs.put_other.Tie as tie
 
-returns : tie.Need-returns
+returns : tie.Need-returns-then-c-lt1
 returns c =
-    let put = c.before.before in
-    let tests = put.before.before in
-    rw (lt-ltb _ _ tests.if1.true) (put.put_byte.ensures.0, omega (arith, put.put_byte.ensures.1))
+    rw (lt-ltb _ _ c.if-c-lt1.true) (c.put_byte.ensures.0, omega (arith, c.put_byte.ensures.1))
 
-returns-2 : tie.Need-returns-2
+returns-2 : tie.Need-returns-then-c-lt13
 returns-2 c =
-    let put = c.before.before in
-    let tests = put.before.before in
-    rw (le-ltb _ _ tests.before.if1.false, lt-ltb _ _ tests.if2.true) put.put-kind.ensures
+    rw (le-ltb _ _ c.if-c-lt1.false, lt-ltb _ _ c.if-c-lt13.true) c.put_kind.ensures
 
-returns-3 : tie.Need-returns-3
+returns-3 : tie.Need-returns-then-c-lt33
 returns-3 c =
-    let put = c.before.before in
-    let tests = put.before.before in
-    rw (le-ltb _ _ tests.before.before.if1.false, le-ltb _ _ tests.before.if2.false, lt-ltb _ _ tests.if3.true) (put.put-byte2.ensures.0, omega (arith, put.put-byte2.ensures.1))
+    rw (le-ltb _ _ c.if-c-lt1.false, le-ltb _ _ c.if-c-lt13.false, lt-ltb _ _ c.if-c-lt33.true) (c.put_byte-then-c-lt33.ensures.0, omega (arith, c.put_byte-then-c-lt33.ensures.1))
 
-returns-4 : tie.Need-returns-4
+returns-4 : tie.Need-returns-then-c-lt127
 returns-4 c =
-    let put = c.before.before in
-    let tests = put.before.before in
-    rw (le-ltb _ _ tests.before.before.before.if1.false, le-ltb _ _ tests.before.before.if2.false, le-ltb _ _ tests.before.if3.false, lt-ltb _ _ tests.if4.true) put.put-quoted.ensures
+    rw (le-ltb _ _ c.if-c-lt1.false, le-ltb _ _ c.if-c-lt13.false, le-ltb _ _ c.if-c-lt33.false, lt-ltb _ _ c.if-c-lt127.true) c.put_quoted.ensures
 
-returns-5 : tie.Need-returns-5
+returns-5 : tie.Need-returns
 returns-5 c =
-    let put = c.before.before in
-    let tests = put.before.before in
-    rw (le-ltb _ _ tests.before.before.before.if1.false, le-ltb _ _ tests.before.before.if2.false, le-ltb _ _ tests.before.if3.false, le-ltb _ _ tests.if4.false) (put.put-byte3.ensures.0, omega (arith, put.put-byte3.ensures.1))
+    rw (le-ltb _ _ c.if-c-lt1.false, le-ltb _ _ c.if-c-lt13.false, le-ltb _ _ c.if-c-lt33.false, le-ltb _ _ c.if-c-lt127.false) (c.put_byte-2.ensures.0, omega (arith, c.put_byte-2.ensures.1))
 
-pub put-other-spec : {M : Type 1} → statement M
-put-other-spec =
+pub put_other_spec : {M : Type 1} → statement M
+put_other_spec =
     tie.close
     (tie.spec
     (λ c κs. search rules)

@@ -16,52 +16,36 @@ few_line s = few_digits 19 s.args.spot.line (search rules)
 few_column : (s : tie.Start) → length (decimal s.args.spot.column) ≤ 20
 few_column s = few_digits 19 s.args.spot.column (search rules)
 
-put-number-requires : tie.Need-put-number-requires
+put-number-requires : tie.Need-put_number-to2-requires
 put-number-requires c κs =
-    let word = c.before.before.before in
-    let s = word.before.before.before.before in
-    omega (arith, s.requires, word.put_word.ensures.ends, few_line s)
+    omega (arith, c.requires, c.put_word-to1.ensures.ends, few_line c.before.before.before.before.before.before.before.before)
 
-put-word-requires-2 : tie.Need-put-word-requires-2
+put-word-requires-2 : tie.Need-put_word-to3-requires
 put-word-requires-2 c κs =
-    let line = c.before.before.before.before in
-    let word = line.before.before.before.before in
-    let s = word.before.before.before.before in
-    omega (arith, s.requires, word.put_word.ensures.ends, past (decimal s.args.spot.line) _ line.put-number.ensures, few_line s)
+    omega (arith, c.requires, c.put_word-to1.ensures.ends, past (decimal c.args.spot.line) _ c.put_number-to2.ensures, few_line c.before.before.before.before.before.before.before.before.before.before.before.before.before.before)
 
-put-number-requires-2 : tie.Need-put-number-requires-2
+put-number-requires-2 : tie.Need-put_number-requires
 put-number-requires-2 c κs =
-    let word2 = c.before.before.before in
-    let line = word2.before.before.before.before.before in
-    let word = line.before.before.before.before in
-    let s = word.before.before.before.before in
     omega (
       arith,
-      s.requires,
-      word.put_word.ensures.ends,
-      past (decimal s.args.spot.line) _ line.put-number.ensures,
-      word2.put-word2.ensures.ends,
-      few_line s,
-      few_column s,
+      c.requires,
+      c.put_word-to1.ensures.ends,
+      past (decimal c.args.spot.line) _ c.put_number-to2.ensures,
+      c.put_word-to3.ensures.ends,
+      few_line c.before.before.before.before.before.before.before.before.before.before.before.before.before.before.before.before.before.before,
+      few_column c.before.before.before.before.before.before.before.before.before.before.before.before.before.before.before.before.before.before,
     )
 
 returns : tie.Need-returns
 returns c =
-    let column = c.before.before in
-    let word2 = column.before.before.before.before in
-    let line = word2.before.before.before.before.before in
-    let word = line.before.before.before.before in
-    let s = word.before.before.before.before in
-    place_stored s.args.spot (few_line s) (few_column s) word.put_word.ensures line.put-number.ensures word2.put-word2.ensures column.put-number2.ensures
+    place_stored c.args.spot (few_line c.before.before.before.before.before.before.before.before.before.before.before.before.before.before.before.before.before.before.before.before.before) (few_column c.before.before.before.before.before.before.before.before.before.before.before.before.before.before.before.before.before.before.before.before.before) c.put_word-to1.ensures c.put_number-to2.ensures c.put_word-to3.ensures c.put_number.ensures
 
-pub put-place-spec : {M : Type 1} → statement M
-put-place-spec =
+pub put_place_spec : {M : Type 1} → statement M
+put_place_spec =
     tie.close
     (tie.spec
-    (λ c. search rules)
     (λ c κs. search rules)
     put-number-requires
-    (λ c. search rules)
     put-word-requires-2
     put-number-requires-2
     (λ c. search rules)

@@ -6,13 +6,13 @@ use borrow.Author.Rules.{rules}
 use Rattle.notation_text.proofs.put_quoted.Statement.{statement}
 use Rattle.notation_text.proofs.put_quoted.Tie as tie
 
-slice-write-out-2 : tie.Need-slice-write-out-2
+slice-write-out-2 : tie.Need-bounds-out-at-2
 slice-write-out-2 c = simp length-set (omega arith)
 
-slice-write-out-3 : tie.Need-slice-write-out-3
+slice-write-out-3 : tie.Need-bounds-out-at-3
 slice-write-out-3 c = simp length-set (omega arith)
 
-slice-write-out-4 : tie.Need-slice-write-out-4
+slice-write-out-4 : tie.Need-bounds-out-at-4
 slice-write-out-4 c = simp length-set (omega arith)
 
 returns : tie.Need-returns
@@ -20,8 +20,8 @@ returns c =
     let a = c.args in
     (then_byte 3 10 (then_byte 2 39 (then_byte 1 a.c (one_byte a.out.now a.at 39))), omega arith)
 
-pub put-quoted-spec : {M : Type 1} → statement M
-put-quoted-spec =
+pub put_quoted_spec : {M : Type 1} → statement M
+put_quoted_spec =
     tie.close
     (tie.spec
     (λ c. search rules)

@@ -6,30 +6,28 @@ use borrow.Author.Rules.{rules}
 use Rattle.notation_text.proofs.show_parse.Statement.{statement}
 use Rattle.notation_text.proofs.show_parse.Tie as tie
 
-returns : tie.Need-returns
+returns : tie.Need-returns-in-Length
 unfolding parse_line
-returns c = rw c.enum_told.given.1 (record { bytes = refl; ends = refl }, omega arith)
+returns c = rw c.in-Length.is (record { bytes = refl; ends = refl }, omega arith)
 
-returns-2 : tie.Need-returns-2
-returns-2 c = let put = c.before.before in rw put.before.before.before.parsed.given.1 put.put-no-digit.ensures
+returns-2 : tie.Need-returns-in-NoDigit
+returns-2 c = rw c.in-NoDigit.is c.put_no_digit.ensures
 
-returns-3 : tie.Need-returns-3
-returns-3 c = let put = c.before.before in rw put.before.before.before.parsed2.given.1 put.put-no-second.ensures
+returns-3 : tie.Need-returns-in-NoSecond
+returns-3 c = rw c.in-NoSecond.is c.put_no_second.ensures
 
-returns-4 : tie.Need-returns-4
+returns-4 : tie.Need-returns-in-TooLong
 unfolding parse_line
 returns-4 c =
-    let put = c.before.before in
-    rw put.before.before.before.enum-told2.given.1 (put.put_word.ensures, omega (arith, put.put_word.ensures.ends))
+    rw c.in-TooLong.is (c.put_word.ensures, omega (arith, c.put_word.ensures.ends))
 
-returns-5 : tie.Need-returns-5
+returns-5 : tie.Need-returns-in-TooShort
 unfolding parse_line
 returns-5 c =
-    let put = c.before.before in
-    rw put.before.before.before.enum-told3.given.1 (put.put-word2.ensures, omega (arith, put.put-word2.ensures.ends))
+    rw c.in-TooShort.is (c.put_word-in-TooShort.ensures, omega (arith, c.put_word-in-TooShort.ensures.ends))
 
-pub show-parse-spec : {M : Type 1} → statement M
-show-parse-spec =
+pub show_parse_spec : {M : Type 1} → statement M
+show_parse_spec =
     tie.close
     (tie.spec
     (λ c. search rules)
@@ -38,9 +36,7 @@ show-parse-spec =
     (λ c. search rules)
     (λ c κs. search rules)
     (λ c. search rules)
-    (λ c. search rules)
     (λ c κs. search rules)
-    (λ c. search rules)
     (λ c. search rules)
     (λ c κs. search rules)
     returns

@@ -12,8 +12,8 @@ returns c =
     let d = c.args.d in
     by_test (ltb d 10) (λ t. rw t (omega (arith, ltb-true d 10 t))) (λ f. rw f (omega (arith, ltb-false d 10 f, c.requires)))
 
-pub hex-digit-spec : {M : Type 1} → statement M
-hex-digit-spec =
+pub hex_digit_spec : {M : Type 1} → statement M
+hex_digit_spec =
     tie.close
     (tie.spec
     (λ c. search rules)

@@ -20,7 +20,7 @@ use Rattle.number_text.proofs.put_hex.Tie as tie
 
 -- ---- where the function began, and the buffer with so many digits stored
 record Place (digits : ℕ) : Type 0 where
-  start : tie.After-slice-known
+  start : tie.After-slice_known-1
   after : List ℕ
   stored : let a = start.before.args in Stored (first_digits digits a.n) a.out.now a.at after (a.at + digits)
 
@@ -34,70 +34,70 @@ next_fits : {k : ℕ} (p : Place k) → leb k 16 ≡ true → Fits w64 (p.start.
 next_fits {k} p few = let s = p.start in let most = leb-true k 16 few in search rules
 
 next_below : {k : ℕ} (p : Place k) → ltb k 16 ≡ true → p.start.before.args.at + k < length p.after
-next_below {k} p few = omega (arith, ltb-true k 16 few, stored_length p.stored, p.start.before.pre)
+next_below {k} p few = omega (arith, ltb-true k 16 few, stored_length p.stored, p.start.requires)
 
 -- ---- the buffer once the first digit is stored, the second, and so on
-abbrev at_1 : tie.After-hex-digit → Place 1
+abbrev at_1 : tie.After-hex_digit → Place 1
 at_1 c =
-    let a = c.before.before.args in
-    let d = c.hex-digit in
+    let a = c.args in
+    let d = c.hex_digit in
     record { start = c.before; after = set a.out.now a.at d.result; stored = first_stored a.out.now a.at a.n d.result d.ensures }
 
-abbrev at_2 : tie.After-hex-digit2 → Place 2
-at_2 c = next (at_1 c.before) c.hex-digit2.result c.hex-digit2.ensures
+abbrev at_2 : tie.After-hex_digit-2 → Place 2
+at_2 c = next (at_1 c.before) c.hex_digit-2.result c.hex_digit-2.ensures
 
-abbrev at_3 : tie.After-hex-digit3 → Place 3
-at_3 c = next (at_2 c.before) c.hex-digit3.result c.hex-digit3.ensures
+abbrev at_3 : tie.After-hex_digit-3 → Place 3
+at_3 c = next (at_2 c.before) c.hex_digit-3.result c.hex_digit-3.ensures
 
-abbrev at_4 : tie.After-hex-digit4 → Place 4
-at_4 c = next (at_3 c.before) c.hex-digit4.result c.hex-digit4.ensures
+abbrev at_4 : tie.After-hex_digit-4 → Place 4
+at_4 c = next (at_3 c.before) c.hex_digit-4.result c.hex_digit-4.ensures
 
-abbrev at_5 : tie.After-hex-digit5 → Place 5
-at_5 c = next (at_4 c.before) c.hex-digit5.result c.hex-digit5.ensures
+abbrev at_5 : tie.After-hex_digit-5 → Place 5
+at_5 c = next (at_4 c.before) c.hex_digit-5.result c.hex_digit-5.ensures
 
-abbrev at_6 : tie.After-hex-digit6 → Place 6
-at_6 c = next (at_5 c.before) c.hex-digit6.result c.hex-digit6.ensures
+abbrev at_6 : tie.After-hex_digit-6 → Place 6
+at_6 c = next (at_5 c.before) c.hex_digit-6.result c.hex_digit-6.ensures
 
-abbrev at_7 : tie.After-hex-digit7 → Place 7
-at_7 c = next (at_6 c.before) c.hex-digit7.result c.hex-digit7.ensures
+abbrev at_7 : tie.After-hex_digit-7 → Place 7
+at_7 c = next (at_6 c.before) c.hex_digit-7.result c.hex_digit-7.ensures
 
-abbrev at_8 : tie.After-hex-digit8 → Place 8
-at_8 c = next (at_7 c.before) c.hex-digit8.result c.hex-digit8.ensures
+abbrev at_8 : tie.After-hex_digit-8 → Place 8
+at_8 c = next (at_7 c.before) c.hex_digit-8.result c.hex_digit-8.ensures
 
-abbrev at_9 : tie.After-hex-digit9 → Place 9
-at_9 c = next (at_8 c.before) c.hex-digit9.result c.hex-digit9.ensures
+abbrev at_9 : tie.After-hex_digit-9 → Place 9
+at_9 c = next (at_8 c.before) c.hex_digit-9.result c.hex_digit-9.ensures
 
-abbrev at_10 : tie.After-hex-digit10 → Place 10
-at_10 c = next (at_9 c.before) c.hex-digit10.result c.hex-digit10.ensures
+abbrev at_10 : tie.After-hex_digit-10 → Place 10
+at_10 c = next (at_9 c.before) c.hex_digit-10.result c.hex_digit-10.ensures
 
-abbrev at_11 : tie.After-hex-digit11 → Place 11
-at_11 c = next (at_10 c.before) c.hex-digit11.result c.hex-digit11.ensures
+abbrev at_11 : tie.After-hex_digit-11 → Place 11
+at_11 c = next (at_10 c.before) c.hex_digit-11.result c.hex_digit-11.ensures
 
-abbrev at_12 : tie.After-hex-digit12 → Place 12
-at_12 c = next (at_11 c.before) c.hex-digit12.result c.hex-digit12.ensures
+abbrev at_12 : tie.After-hex_digit-12 → Place 12
+at_12 c = next (at_11 c.before) c.hex_digit-12.result c.hex_digit-12.ensures
 
-abbrev at_13 : tie.After-hex-digit13 → Place 13
-at_13 c = next (at_12 c.before) c.hex-digit13.result c.hex-digit13.ensures
+abbrev at_13 : tie.After-hex_digit-13 → Place 13
+at_13 c = next (at_12 c.before) c.hex_digit-13.result c.hex_digit-13.ensures
 
-abbrev at_14 : tie.After-hex-digit14 → Place 14
-at_14 c = next (at_13 c.before) c.hex-digit14.result c.hex-digit14.ensures
+abbrev at_14 : tie.After-hex_digit-14 → Place 14
+at_14 c = next (at_13 c.before) c.hex_digit-14.result c.hex_digit-14.ensures
 
-abbrev at_15 : tie.After-hex-digit15 → Place 15
-at_15 c = next (at_14 c.before) c.hex-digit15.result c.hex-digit15.ensures
+abbrev at_15 : tie.After-hex_digit-15 → Place 15
+at_15 c = next (at_14 c.before) c.hex_digit-15.result c.hex_digit-15.ensures
 
-abbrev at_16 : tie.After-hex-digit16 → Place 16
+abbrev at_16 : tie.After-hex_digit-16 → Place 16
 at_16 c =
     let p = at_15 c.before in
-    next p c.hex-digit16.result (rw (← div-one p.start.before.args.n) at c.hex-digit16.ensures)
+    next p c.hex_digit-16.result (rw (← div-one p.start.before.args.n) at c.hex_digit-16.ensures)
 
 returns : tie.Need-returns
 returns c =
     let p = at_16 c in
-    let s = p.start.before in
-    rw (hex_first s.args.n (omega (arith, s.fits.n))) p.stored
+    let s = p.start in
+    rw (hex_first s.args.n (omega (arith, s.ranges.n.fits))) p.stored
 
-pub put-hex-spec : {M : Type 1} → statement M
-put-hex-spec =
+pub put_hex_spec : {M : Type 1} → statement M
+put_hex_spec =
     tie.close
     (tie.spec
     (λ c κs. digit_below _)

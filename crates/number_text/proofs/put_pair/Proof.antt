@@ -6,14 +6,14 @@ use Rattle.number_text.proofs.Stores.{two_bytes}
 use Rattle.number_text.proofs.put_pair.Statement.{statement}
 use Rattle.number_text.proofs.put_pair.Tie as tie
 
-slice-write-out-2 : tie.Need-slice-write-out-2
+slice-write-out-2 : tie.Need-bounds-out-at-2
 slice-write-out-2 c = simp length-set (omega arith)
 
 returns : tie.Need-returns
 returns c = two_bytes c.args.out.now c.args.at (omega (arith, c.requires.0)) (omega (arith, c.requires.0))
 
-pub put-pair-spec : {M : Type 1} → statement M
-put-pair-spec =
+pub put_pair_spec : {M : Type 1} → statement M
+put_pair_spec =
     tie.close
     (tie.spec
     (λ c. search rules)

@@ -4,7 +4,7 @@ use Rattle.ordered_calls.proofs.complete.Statement.{statement}
 use Rattle.ordered_calls.proofs.complete.Tie as tie
 
 returns : tie.Need-returns
-returns c = rw c.before.start-all.ensures
+returns c = rw c.start_all-started.ensures
 
-pub complete-spec : {M : Type 1} → statement M
-complete-spec = tie.close (tie.spec (λ c κs. search rules) (λ c. search rules) returns)
+pub complete_spec : {M : Type 1} → statement M
+complete_spec = tie.close (tie.spec (λ c κs. search rules) (λ c. search rules) returns)

@@ -4,11 +4,11 @@ use borrow.Author.Rules.{rules}
 use Rattle.ordered_calls.proofs.start_at.Statement.{statement}
 use Rattle.ordered_calls.proofs.start_at.Tie as tie
 
-returns : tie.Need-returns
-returns c = rw c.before.before.phase.given.1 c.to_write.ensures
+returns : tie.Need-returns-in-Gathered
+returns c = rw c.in-Gathered.is c.to_write.ensures
 
-returns-2 : tie.Need-returns-2
-returns-2 c = rw (not_gathered c.before.args.phase c.match.keys2)
+returns-2 : tie.Need-returns-in_default
+returns-2 c = rw (not_gathered c.args.phase c.in_default.in_default-own.keys2)
 
-pub start-at-spec : {M : Type 1} → statement M
-start-at-spec = tie.close (tie.spec (λ c. search rules) (λ c κs. search rules) returns returns-2)
+pub start_at_spec : {M : Type 1} → statement M
+start_at_spec = tie.close (tie.spec (λ c. search rules) (λ c κs. search rules) returns returns-2)

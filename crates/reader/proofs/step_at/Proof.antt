@@ -4,7 +4,7 @@ use Rattle.reader.proofs.step_at.Statement.{statement}
 use Rattle.reader.proofs.step_at.Tie as tie
 
 returns : tie.Need-returns
-returns c = rw (c.after-reading.ensures, c.before.read-event.ensures)
+returns c = rw (c.after_reading-to.ensures, c.read_event-reading.ensures)
 
-pub step-at-spec : {M : Type 1} → statement M
-step-at-spec = tie.close (tie.spec (λ c κs. search rules) (λ c κs. search rules) returns)
+pub step_at_spec : {M : Type 1} → statement M
+step_at_spec = tie.close (tie.spec (λ c κs. search rules) (λ c κs. search rules) returns)

@@ -3,5 +3,5 @@ use borrow.Author.Rules.{rules}
 use Rattle.record_calls.proofs.ends_within.Statement.{statement}
 use Rattle.record_calls.proofs.ends_within.Tie as tie
 
-pub ends-within-spec : {M : Type 1} → statement M
-ends-within-spec = tie.close (tie.spec (λ c. search rules) (λ c. search rules))
+pub ends_within_spec : {M : Type 1} → statement M
+ends_within_spec = tie.close (tie.spec (λ c. search rules) (λ c. search rules))

@@ -4,7 +4,7 @@ use Rattle.record_calls.proofs.find_at.Statement.{statement}
 use Rattle.record_calls.proofs.find_at.Tie as tie
 
 returns : tie.Need-returns
-returns c = rw c.before.record-at.ensures
+returns c = rw c.record_at-answer.ensures
 
-pub find-at-spec : {M : Type 1} → statement M
-find-at-spec = tie.close (tie.spec (λ c κs. search rules) returns)
+pub find_at_spec : {M : Type 1} → statement M
+find_at_spec = tie.close (tie.spec (λ c κs. search rules) returns)

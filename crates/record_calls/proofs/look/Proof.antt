@@ -3,11 +3,11 @@ use borrow.Author.Rules.{rules}
 use Rattle.record_calls.proofs.look.Statement.{statement}
 use Rattle.record_calls.proofs.look.Tie as tie
 
-returns : tie.Need-returns
-returns c = rw (← c.before.before.holds-whole.ensures, c.before.if1.true) c.refuse.ensures
+returns : tie.Need-returns-then-not-holds_whole
+returns c = rw (← c.holds_whole.ensures, c.if-not-holds_whole.true-raw) c.refuse.ensures
 
-returns-2 : tie.Need-returns-2
-returns-2 c = rw (← c.before.before.holds-whole.ensures, c.before.if1.false) c.find_at.ensures
+returns-2 : tie.Need-returns
+returns-2 c = rw (← c.holds_whole.ensures, c.if-not-holds_whole.false-raw) c.find_at.ensures
 
 pub look_spec : {M : Type 1} → statement M
 look_spec =

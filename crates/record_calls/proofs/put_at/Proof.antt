@@ -4,14 +4,14 @@ use borrow.Author.Rules.{rules}
 use Rattle.record_calls.proofs.put_at.Statement.{statement}
 use Rattle.record_calls.proofs.put_at.Tie as tie
 
-cast-end : tie.Need-overflow-cast-end
-cast-end c = omega (arith, c.before.requires, c.before.well-formed)
+cast-end : tie.Need-overflow_cast-end
+cast-end c = omega (arith, c.requires, c.well_formed)
 
-add-end : tie.Need-overflow-add-end
-add-end c = omega (arith, c.before.requires, c.before.well-formed)
+add-end : tie.Need-overflow_add-end
+add-end c = omega (arith, c.requires, c.well_formed)
 
 returns : tie.Need-returns
 returns c = rw (← c.larger.ensures)
 
-pub put-at-spec : {M : Type 1} → statement M
-put-at-spec = tie.close (tie.spec cast-end add-end (λ c κs. search rules) returns)
+pub put_at_spec : {M : Type 1} → statement M
+put_at_spec = tie.close (tie.spec cast-end add-end (λ c κs. search rules) returns)

@@ -10,27 +10,27 @@ use borrow.Author.Rules.{rules}
 use Rattle.record_calls.proofs.read.Statement.{statement}
 use Rattle.record_calls.proofs.read.Tie as tie
 
-add-t10 : tie.Need-overflow-add-t10
+add-t10 : tie.Need-overflow_add-next
 add-t10 c =
-    let told = c.before.before.before in
-    let s = told.before.before.before in
-    let low = rw told.phase.given.1 at s.requires.0 in
+    let told = c.before.before in
+    let s = told in
+    let low = rw told.in-BusyReading.is at s.requires.0 in
     omega arith
 
-returns : tie.Need-returns
+returns : tie.Need-returns-in-BusyReading
 returns c =
     let w = c.before in
     let o = w.before.before in
-    let told = o.before.before in
-    let a = told.before.before.before.args in
-    let next = told.phase.given.0.1.0 in
+    let told = o in
+    let a = told.args in
+    let next = told.in-BusyReading.next in
     let after = w.to_read.ensures ∙ ap (λ (n : ℕ). reading n (place (next.0 + 1))) o.one_less.ensures in
-    c.find_at.ensures ∙ ap (record_found a.seen a.position a.book.now) after ∙ sym (ap (read_by a.seen a.position a.book.now) told.phase.given.1)
+    c.find_at.ensures ∙ ap (record_found a.seen a.position a.book.now) after ∙ sym (ap (read_by a.seen a.position a.book.now) told.in-BusyReading.is)
 
-returns-2 : tie.Need-returns-2
+returns-2 : tie.Need-returns-in_default
 returns-2 c =
-    let s = c.before.before.before.args.seen in
-    rw (not_reading s.phase c.before.match.keys2) c.refuse.ensures
+    let s = c.args.seen in
+    rw (not_reading s.phase c.in_default.in_default-own.keys2) c.refuse.ensures
 
 pub read_spec : {M : Type 1} → statement M
 read_spec =

@@ -5,20 +5,20 @@ use borrow.Author.Rules.{rules}
 use Rattle.record_calls.proofs.store.Statement.{statement}
 use Rattle.record_calls.proofs.store.Tie as tie
 
-store-record-requires : tie.Need-store-record-requires
+store-record-requires : tie.Need-store_record-requires
 store-record-requires c κs =
-    let told = c.before.before in
-    leb-true _ _ (rw told.answer.given.1 at told.before.before.before.requires)
+    let told = c in
+    leb-true _ _ (rw told.in-Wrote.is at told.requires)
 
-returns : tie.Need-returns
+returns : tie.Need-returns-in-Wrote
 returns c =
-    let stored = c.before.before in
-    rw stored.before.before.before.answer.given.1 stored.store-record.ensures
+    let stored = c in
+    rw stored.in-Wrote.is stored.store_record.ensures
 
-returns-2 : tie.Need-returns-2
+returns-2 : tie.Need-returns-in_default
 returns-2 c =
-    let s = c.before.before in
-    not_wrote s.args.content s.args.book.now s.args.answer c.match.keys2
+    let s = c in
+    not_wrote s.args.content s.args.book.now s.args.answer c.in_default.in_default-own.keys2
 
 pub store_spec : {M : Type 1} → statement M
 store_spec =

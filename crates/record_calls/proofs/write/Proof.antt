@@ -11,33 +11,33 @@ use borrow.Author.Rules.{rules}
 use Rattle.record_calls.proofs.write.Statement.{statement}
 use Rattle.record_calls.proofs.write.Tie as tie
 
-add-t9 : tie.Need-overflow-add-t9
+add-t9 : tie.Need-overflow_add-next
 add-t9 c =
-    let told = c.before.before.before in
-    let s = told.before.before in
-    let low = rw told.phase.given.1 at s.requires.0 in
+    let told = c.before.before in
+    let s = told in
+    let low = rw told.in-BusyWriting.is at s.requires.0 in
     omega arith
 
-put-at-requires : tie.Need-put-at-requires
+put-at-requires : tie.Need-put_at-requires
 put-at-requires c κs =
-    let told = c.before.before.before.before in
-    let s = told.before.before in
-    leb-true _ _ (rw told.phase.given.1 at s.requires.1)
+    let told = c.before.before.before in
+    let s = told in
+    leb-true _ _ (rw told.in-BusyWriting.is at s.requires.1)
 
-returns : tie.Need-returns
+returns : tie.Need-returns-in-BusyWriting
 returns c =
     let w = c.before in
     let o = w.before.before in
-    let told = o.before.before in
-    let a = told.before.before.args in
-    let next = told.phase.given.0.1.0 in
+    let told = o in
+    let a = told.args in
+    let next = told.in-BusyWriting.next in
     let after = w.to_write.ensures ∙ ap (λ (n : ℕ). writing n (place (next.0 + 1))) o.one_less.ensures in
-    c.put-at.ensures ∙ ap (record_put a.seen a.position) after ∙ sym (ap (written_by a.seen a.position) told.phase.given.1)
+    c.put_at.ensures ∙ ap (record_put a.seen a.position) after ∙ sym (ap (written_by a.seen a.position) told.in-BusyWriting.is)
 
-returns-2 : tie.Need-returns-2
+returns-2 : tie.Need-returns-in_default
 returns-2 c =
-    let s = c.before.before.args.seen in
-    rw (not_writing s.phase c.before.match.keys2) c.refuse.ensures
+    let s = c.args.seen in
+    rw (not_writing s.phase c.in_default.in_default-own.keys2) c.refuse.ensures
 
 pub write_spec : {M : Type 1} → statement M
 write_spec =

@@ -11,37 +11,37 @@ use Rattle.report.specs.Rows.{empty_row}
 use Rattle.report.proofs.any_full.Statement.{statement}
 use Rattle.report.proofs.any_full.Tie as tie
 
-abbrev invariant-loop : tie.invariant-loop
+abbrev invariant-loop : tie.invariant-loop-i
 invariant-loop rows i₀ i = some_pass is_full_row (drop i rows) ≡ some_pass is_full_row rows
 
-abbrev decreases-loop : tie.decreases-loop
+abbrev decreases-loop : tie.decreases-loop-i
 decreases-loop rows i₀ i = most_lanes - i
 
-loop-holds : tie.Need-loop-init invariant-loop decreases-loop
+loop-holds : tie.Need-loop-i-init invariant-loop decreases-loop
 loop-holds c = refl
 
-returns : tie.Need-returns invariant-loop decreases-loop
+returns : tie.Need-returns-then-is_full_row invariant-loop decreases-loop
 returns c =
     let loop = c.before.before.before.before in
-    let rows = loop.before.args.t1 in
-    let room : loop.loop.i < length rows = search rules in
-    sym (any_here is_full_row rows loop.loop.i empty_row room (sym c.before.is-full-row.ensures ∙ c.if1.true)) ∙ loop.loop.invariant
+    let rows = loop.args.rows in
+    let room : loop.loop-i.i < length rows = search rules in
+    sym (any_here is_full_row rows loop.loop-i.i empty_row room (sym c.is_full_row.ensures ∙ c.if-is_full_row.true)) ∙ loop.loop-i.invariant
 
-loop-again : tie.Need-loop-preserved invariant-loop decreases-loop
+loop-again : tie.Need-loop-i-preserved invariant-loop decreases-loop
 loop-again c =
     let loop = c.before.before.before.before in
-    let rows = loop.before.args.t1 in
-    let room : loop.loop.i < length rows = search rules in
-    sym (any_more is_full_row rows loop.loop.i empty_row room (sym c.before.is-full-row.ensures ∙ c.if1.false)) ∙ loop.loop.invariant
+    let rows = loop.args.rows in
+    let room : loop.loop-i.i < length rows = search rules in
+    sym (any_more is_full_row rows loop.loop-i.i empty_row room (sym c.is_full_row.ensures ∙ c.if-is_full_row.false)) ∙ loop.loop-i.invariant
 
-returns-2 : tie.Need-returns-2 invariant-loop decreases-loop
+returns-2 : tie.Need-returns invariant-loop decreases-loop
 returns-2 c =
-    let rows = c.before.before.args.t1 in
-    let past : length rows ≤ c.before.loop.i = search rules in
-    sym (any_end is_full_row rows c.before.loop.i empty_row past) ∙ c.before.loop.invariant
+    let rows = c.args.rows in
+    let past : length rows ≤ c.loop-i.i = search rules in
+    sym (any_end is_full_row rows c.loop-i.i empty_row past) ∙ c.loop-i.invariant
 
-pub any-full-spec : {M : Type 1} → statement M
-any-full-spec =
+pub any_full_spec : {M : Type 1} → statement M
+any_full_spec =
     tie.close
     (tie.spec
     invariant-loop

@@ -4,11 +4,11 @@ use borrow.Author.Tests.{ne_eqb}
 use Rattle.report.proofs.mean.Statement.{statement}
 use Rattle.report.proofs.mean.Tie as tie
 
-returns : tie.Need-returns
-returns c = rw c.if1.true
+returns : tie.Need-returns-then-times-eq0
+returns c = rw c.if-times-eq0.true
 
-returns-2 : tie.Need-returns-2
-returns-2 c = rw (ne_eqb _ _ c.if1.false)
+returns-2 : tie.Need-returns
+returns-2 c = rw (ne_eqb _ _ c.if-times-eq0.false)
 
-pub mean-spec : {M : Type 1} → statement M
-mean-spec = tie.close (tie.spec returns (λ c. search rules) returns-2)
+pub mean_spec : {M : Type 1} → statement M
+mean_spec = tie.close (tie.spec returns (λ c. search rules) returns-2)

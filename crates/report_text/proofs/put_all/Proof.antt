@@ -10,15 +10,12 @@ use Rattle.report_text.proofs.put_all.Tie as tie
 returns : tie.Need-returns
 unfolding row_line words
 returns c =
-    let p = c.before.before in
-    let w = p.before.before.before.before in
-    (and_then w.put_word.ensures p.put-numbers.ensures.0, omega (arith, w.put_word.ensures.ends, p.put-numbers.ensures.1))
+    (and_then c.put_word-next.ensures c.put_numbers.ensures.0, omega (arith, c.put_word-next.ensures.ends, c.put_numbers.ensures.1))
 
-pub put-all-spec : {M : Type 1} → statement M
-put-all-spec =
+pub put_all_spec : {M : Type 1} → statement M
+put_all_spec =
     tie.close
     (tie.spec
-    (λ c. search rules)
     (λ c κs. search rules)
     (λ c κs. search rules)
     (λ c. search rules)

@@ -15,31 +15,24 @@ few : (c : tie.Start) → length (decimal c.args.n) ≤ 20
 few c = few_digits 19 c.args.n (omega arith)
 
 -- where the number starts
-starts : (c : tie.After-text-start) → let a = c.before.before.before.args in c.text-start.result ≡ a.at + (a.width - length (decimal a.n))
-starts c = rw c.before.digits.ensures at c.text-start.ensures
+starts : (c : tie.After-text_start-start) → let a = c.args in c.text_start-start.result ≡ a.at + (a.width - length (decimal a.n))
+starts c = rw c.digits.ensures at c.text_start-start.ensures
 
-put-number-requires : tie.Need-put-number-requires
+put-number-requires : tie.Need-put_number-requires
 put-number-requires c κs =
-    let p = c.before.before.before in
-    let t = p.before.before in
-    let s = t.before.before.before in
-    let a = s.args in
-    let next = length-replicate {A = ℕ} (t.text-start.result - a.at) 32 in
-    let end = starts_within a.at a.width t.text-start.result (length (decimal a.n)) _ (starts t) s.requires.0 (omega (arith, few s)) in
-    omega (arith, p.put-blanks.ensures.ends, stored_length p.put-blanks.ensures, next, end, starts t, s.requires.1)
+    let a = c.args in
+    let next = length-replicate {A = ℕ} (c.text_start-start.result - a.at) 32 in
+    let end = starts_within a.at a.width c.text_start-start.result (length (decimal a.n)) _ (starts c.before.before.before.before.before) c.requires.0 (omega (arith, few c.before.before.before.before.before.before.before.before)) in
+    omega (arith, c.put_blanks-next.ensures.ends, stored_length c.put_blanks-next.ensures, next, end, starts c.before.before.before.before.before, c.requires.1)
 
 returns : tie.Need-returns
 returns c =
-    let n = c.before.before in
-    let p = n.before.before.before.before in
-    let t = p.before.before in
-    let s = t.before.before.before in
-    let a = s.args in
-    let line = cell_stored a.width (decimal a.n) a.after (starts t) p.put-blanks.ensures n.put-number.ensures in
-    (line, cell_within a.width (decimal a.n) a.after _ line s.requires.0 (omega (arith, few s)))
+    let a = c.args in
+    let line = cell_stored a.width (decimal a.n) a.after (starts c.before.before.before.before.before.before.before.before) c.put_blanks-next.ensures c.put_number.ensures in
+    (line, cell_within a.width (decimal a.n) a.after _ line c.requires.0 (omega (arith, few c.before.before.before.before.before.before.before.before.before.before.before)))
 
-pub put-cell-spec : {M : Type 1} → statement M
-put-cell-spec =
+pub put_cell_spec : {M : Type 1} → statement M
+put_cell_spec =
     tie.close
     (tie.spec
     (λ c κs. search rules)

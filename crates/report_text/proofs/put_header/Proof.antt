@@ -8,8 +8,11 @@ use Rattle.report_text.proofs.put_header.Tie as tie
 returns : tie.Need-returns
 unfolding words
 returns c =
-    let line = c.before.before.put_word.ensures in
+    let line = c.put_word.ensures in
     (line, omega (arith, line.ends))
 
-pub put-header-spec : {M : Type 1} → statement M
-put-header-spec = tie.close (tie.spec (λ c. search rules) (λ c κs. search rules) (λ c. search rules) returns)
+pub put_header_spec : {M : Type 1} → statement M
+put_header_spec = tie.close (tie.spec
+    (λ c κs. search rules)
+    (λ c. search rules)
+    returns)

@@ -9,19 +9,16 @@ use borrow.Author.Rules.{rules}
 use Rattle.report_text.proofs.put_lane.Statement.{statement}
 use Rattle.report_text.proofs.put_lane.Tie as tie
 
-returns : tie.Need-returns
-returns c = rw (sym c.before.has-wait.ensures ∙ not-true _ c.if1.true) (record { bytes = refl; ends = omega arith }, omega arith)
+returns : tie.Need-returns-then-not-has_wait
+returns c = rw (sym c.has_wait.ensures ∙ not-true _ c.if-not-has_wait.true-raw) (record { bytes = refl; ends = omega arith }, omega arith)
 
-returns-2 : tie.Need-returns-2
+returns-2 : tie.Need-returns
 unfolding row_line words
 returns-2 c =
-    let p = c.before.before in
-    let q = p.before.before.before.before in
-    let e = q.before.before in
-    rw (sym e.before.has-wait.ensures ∙ not-false _ e.if1.false) (and_then q.put-cell.ensures.0 p.put-numbers.ensures.0, omega (arith, q.put-cell.ensures.1, p.put-numbers.ensures.1))
+    rw (sym c.has_wait.ensures ∙ not-false _ c.if-not-has_wait.false-raw) (and_then c.put_cell-next.ensures.0 c.put_numbers.ensures.0, omega (arith, c.put_cell-next.ensures.1, c.put_numbers.ensures.1))
 
-pub put-lane-spec : {M : Type 1} → statement M
-put-lane-spec =
+pub put_lane_spec : {M : Type 1} → statement M
+put_lane_spec =
     tie.close
     (tie.spec
     (λ c κs. search rules)

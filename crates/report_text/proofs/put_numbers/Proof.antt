@@ -8,21 +8,13 @@ use Rattle.report_text.proofs.put_numbers.Tie as tie
 returns : tie.Need-returns
 unfolding words
 returns c =
-    let p6 = c.before.before in
-    let p5 = p6.before.before.before.before in
-    let p4 = p5.before.before.before.before in
-    let p3 = p4.before.before.before.before in
-    let p2 = p3.before.before.before.before in
-    let p1 = p2.before.before.before.before in
-    let remainder = p1.before.before in
-    let mean = remainder.before in
-    let mean-cell = rw mean.mean.ensures at p4.put-cell4.ensures.0 in
-    let remainder-cell = rw remainder.remainder.ensures at p5.put-cell5.ensures.0 in
-    let last = and_then mean-cell (and_then remainder-cell p6.put-cell6.ensures.0) in
-    (and_then p1.put-cell.ensures.0 (and_then p2.put-cell2.ensures.0 (and_then p3.put-cell3.ensures.0 last)), search rules)
+    let mean-cell = rw c.mean-mean.ensures at c.put_cell-to_remainder.ensures.0 in
+    let remainder-cell = rw c.remainder-remainder.ensures at c.put_cell-to_unended.ensures.0 in
+    let last = and_then mean-cell (and_then remainder-cell c.put_cell.ensures.0) in
+    (and_then c.put_cell-to_sum.ensures.0 (and_then c.put_cell-to_largest.ensures.0 (and_then c.put_cell-to_mean.ensures.0 last)), search rules)
 
-pub put-numbers-spec : {M : Type 1} → statement M
-put-numbers-spec =
+pub put_numbers_spec : {M : Type 1} → statement M
+put_numbers_spec =
     tie.close
     (tie.spec
     (λ c κs. search rules)

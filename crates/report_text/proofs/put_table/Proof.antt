@@ -7,13 +7,10 @@ use Rattle.report_text.proofs.put_table.Tie as tie
 
 returns : tie.Need-returns
 returns c =
-    let p3 = c.before.before in
-    let p2 = p3.before.before.before.before in
-    let p1 = p2.before.before.before.before in
-    (and_then p1.put-header.ensures.0 (and_then p2.put-lanes.ensures.0 p3.put_all_lem.ensures.0), omega (arith, p1.put-header.ensures.1, p2.put-lanes.ensures.1, p3.put_all_lem.ensures.1))
+    (and_then c.put_header-to_lanes.ensures.0 (and_then c.put_lanes-to_all.ensures.0 c.put_all.ensures.0), omega (arith, c.put_header-to_lanes.ensures.1, c.put_lanes-to_all.ensures.1, c.put_all.ensures.1))
 
-pub put-table-spec : {M : Type 1} → statement M
-put-table-spec =
+pub put_table_spec : {M : Type 1} → statement M
+put_table_spec =
     tie.close
     (tie.spec
     (λ c κs. search rules)

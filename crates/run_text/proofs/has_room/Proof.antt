@@ -21,16 +21,16 @@ quotient n m h =
     let g : (m - most_last) / most_line < n = omega arith in
     lt-leb n ((m - most_last) / most_line) g ∙ sym t)
 
-returns : tie.Need-returns
+returns : tie.Need-returns-then-out-lt-MOST_LAST
 returns c =
-    let a = c.before.args in
+    let a = c.args in
     let less : a.out < most_text a.sheet = omega arith in
     sym (lt-leb _ _ less)
 
-returns-2 : tie.Need-returns-2
+returns-2 : tie.Need-returns
 returns-2 c =
-    let a = c.before.args in
-    quotient a.sheet a.out c.if1.false
+    let a = c.args in
+    quotient a.sheet a.out c.if-out-lt-MOST_LAST.false
 
-pub has-room-spec : {M : Type 1} → statement M
-has-room-spec = tie.close (tie.spec returns returns-2)
+pub has_room_spec : {M : Type 1} → statement M
+has_room_spec = tie.close (tie.spec returns returns-2)

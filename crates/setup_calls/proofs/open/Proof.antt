@@ -6,29 +6,29 @@ use borrow.Author.Rules.{rules}
 use Rattle.setup_calls.proofs.open.Statement.{statement}
 use Rattle.setup_calls.proofs.open.Tie as tie
 
-returns : tie.Need-returns
+returns : tie.Need-returns-then-number-ne0
 returns c =
     let asked = c.before.before in
-    let s = asked.before.before in
+    let s = asked in
     let l = s.args.line in
     let book = s.args.book.now in
-    meets_number l book _ asked.open-refusal.result _ (open_step_lem l book s.requires s.args.lanes s.args.capacity) asked.open-refusal.ensures c.before.if1.true c.refuse.ensures
+    meets_number l book _ asked.open_refusal-number.result _ (open_step_lem l book s.requires s.args.lanes s.args.capacity) asked.open_refusal-number.ensures c.if-number-ne0.true c.refuse.ensures
 
-zero-first-requires : tie.Need-zero-first-requires
+zero-first-requires : tie.Need-zero_first-requires
 zero-first-requires c κs =
     let asked = c.before.before in
-    let s = asked.before.before in
-    capacity_held s.args.line.lanes s.args.lanes s.args.capacity _ (sym asked.open-refusal.ensures ∙ c.before.if1.false)
+    let s = asked in
+    capacity_held s.args.line.lanes s.args.lanes s.args.capacity _ (sym asked.open_refusal-number.ensures ∙ c.if-number-ne0.false)
 
-returns-2 : tie.Need-returns-2
+returns-2 : tie.Need-returns
 returns-2 c =
     let zeroed = c.before.before.before in
     let asked = zeroed.before.before.before in
-    let s = asked.before.before in
+    let s = asked in
     let l = s.args.line in
     let book = s.args.book.now in
-    meets_none l book _ asked.open-refusal.result _ (open_step_lem l book s.requires s.args.lanes s.args.capacity) asked.open-refusal.ensures zeroed.before.before.if1.false
-    (record { answer = refl; line = c.opened.ensures; book = zeroed.zero-first.ensures })
+    meets_none l book _ asked.open_refusal-number.result _ (open_step_lem l book s.requires s.args.lanes s.args.capacity) asked.open_refusal-number.ensures zeroed.if-number-ne0.false
+    (record { answer = refl; line = c.opened-next.ensures; book = zeroed.zero_first.ensures })
 
 pub open_spec : {M : Type 1} → statement M
 open_spec =

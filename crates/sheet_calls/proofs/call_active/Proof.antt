@@ -5,25 +5,22 @@ use borrow.Author.Rules.{rules}
 use Rattle.sheet_calls.proofs.call_active.Statement.{statement}
 use Rattle.sheet_calls.proofs.call_active.Tie as tie
 
-returns : tie.Need-returns
+returns : tie.Need-returns-then-is_refusal
 returns c =
-    let refused = sym c.before.before.is-refusal.ensures ∙ c.before.if1.true in
-    rw refused (rw refused at c.call-with.ensures)
+    let refused = sym c.is_refusal.ensures ∙ c.if-is_refusal.true in
+    rw refused (rw refused at c.call_with.ensures)
 
-sub-active : tie.Need-overflow-sub-active
+sub-active : tie.Need-overflow_sub-active
 sub-active c =
-    let refusal = c.before.before in
-    omega (arith, refusal.before.requires.0 (sym refusal.is-refusal.ensures ∙ c.before.if1.false))
+    omega (arith, c.requires.0 (sym c.is_refusal.ensures ∙ c.if-is_refusal.false))
 
-returns-2 : tie.Need-returns-2
+returns-2 : tie.Need-returns
 returns-2 c =
-    let idle = c.before.before in
-    let left = idle.before.before in
-    let accepted = sym left.before.is-refusal.ensures ∙ left.if1.false in
-    rw accepted (rw (accepted, c.before.with-active.ensures, idle.not-idle.ensures.0) at c.call-with2.ensures)
+    let accepted = sym c.is_refusal.ensures ∙ c.if-is_refusal.false in
+    rw accepted (rw (accepted, c.with_active.ensures, c.not_idle.ensures.0) at c.call_with-2.ensures)
 
-pub call-active-spec : {M : Type 1} → statement M
-call-active-spec =
+pub call_active_spec : {M : Type 1} → statement M
+call_active_spec =
     tie.close
     (tie.spec
     (λ c κs. search rules)

@@ -4,7 +4,7 @@ use Rattle.sheet_calls.proofs.call_with.Statement.{statement}
 use Rattle.sheet_calls.proofs.call_with.Tie as tie
 
 returns : tie.Need-returns
-returns c = rw (← c.is-refusal.ensures)
+returns c = rw (← c.is_refusal.ensures)
 
-pub call-with-spec : {M : Type 1} → statement M
-call-with-spec = tie.close (tie.spec (λ c κs. search rules) returns)
+pub call_with_spec : {M : Type 1} → statement M
+call_with_spec = tie.close (tie.spec (λ c κs. search rules) returns)

@@ -8,9 +8,9 @@ use Rattle.sheet_calls.proofs.refused_call.Statement.{statement}
 use Rattle.sheet_calls.proofs.refused_call.Tie as tie
 
 byte : (s : tie.Start) → s.args.number < 256
-byte s = omega (arith, s.well-formed)
+byte s = omega (arith, s.well_formed)
 
-put-refused-requires : tie.Need-put-refused-requires
+put-refused-requires : tie.Need-put_refused-end-requires
 put-refused-requires c κs =
     let s = c.before.before in
     omega (arith, s.requires, refused_short s.args.number (byte s))
@@ -24,11 +24,11 @@ returns c =
       past = refl;
       told = refl;
       starts = refl;
-      put = record { text = put.Put-refused.ensures; short = omega (arith, put.Put-refused.ensures.ends, refused_short s.args.number (byte s)) };
+      put = record { text = put.put_refused-end.ensures; short = omega (arith, put.put_refused-end.ensures.ends, refused_short s.args.number (byte s)) };
     }
 
-pub refused-call-spec : {M : Type 1} → statement M
-refused-call-spec =
+pub refused_call_spec : {M : Type 1} → statement M
+refused_call_spec =
     tie.close
     (tie.spec
     put-refused-requires

@@ -8,7 +8,7 @@ use Rattle.soundness.proofs.past_ok.Tie as tie
 returns : tie.Need-returns
 returns c =
     let s = c.before.before in
-    rw c.before.index.ensures at c.all_meet.ensures ∙ past_idle s.args.line s.requires
+    rw c.index.ensures at c.all_meet.ensures ∙ past_idle s.args.line s.requires
 
-pub past-ok-spec : {M : Type 1} → statement M
-past-ok-spec = tie.close (tie.spec (λ c κs. search rules) (λ c κs. search rules) returns)
+pub past_ok_spec : {M : Type 1} → statement M
+past_ok_spec = tie.close (tie.spec (λ c κs. search rules) (λ c κs. search rules) returns)

@@ -11,10 +11,10 @@ returns c =
     let pointer = lanes.before in
     let view = pointer.before in
     let s = view.before.before in
-    rw (c.number322.ensures.0, c.before.number32.ensures.0, flags.flags-in.ensures, lanes.lanes-in.ensures, pointer.pointer_in.ensures, view.view_in.ensures, number_of_one s.args.bytes.now 8 (search rules))
+    rw (c.number32-2.ensures.0, c.number32.ensures.0, flags.flags_in-flag.ensures, lanes.lanes_in-lane.ensures, pointer.pointer_in-pointer.ensures, view.view_in-view.ensures, number_of_one s.args.bytes.now 8 (search rules))
 
-pub line-in-spec : {M : Type 1} → statement M
-line-in-spec =
+pub line_in_spec : {M : Type 1} → statement M
+line_in_spec =
     tie.close
     (tie.spec
     (λ c κs. search rules)

@@ -12,10 +12,10 @@ returns c =
     let head = lanes.before.before.before.before in
     let s = head.before.before.before.before.before in
     let l = s.args.line in
-    rw (flags.put-flags.ensures, lanes.put-lanes.ensures, head.put-head.ensures) (parts_stored s.args.bytes.now l (shape_of l s.well-formed.1.0))
+    rw (flags.put_flags.ensures, lanes.put_lanes.ensures, head.put_head.ensures) (parts_stored s.args.bytes.now l (shape_of l s.well_formed.1.0))
 
-pub put-state-spec : {M : Type 1} → statement M
-put-state-spec =
+pub put_state_spec : {M : Type 1} → statement M
+put_state_spec =
     tie.close
     (tie.spec
     (λ c κs. search rules)

@@ -9,21 +9,21 @@ use Rattle.state_bytes.specs.StateBytes.{state_bytes, state_length}
 use Rattle.state_calls.proofs.put_unopened.Statement.{statement}
 use Rattle.state_calls.proofs.put_unopened.Tie as tie
 
-returns : tie.Need-returns
+returns : tie.Need-returns-then-state-lt-STATE_LENGTH
 returns c =
-    let short = lt-ltb (length c.before.before.args.state.now) state_length c.if1.true in
+    let short = lt-ltb (length c.args.state.now) state_length c.if-state-lt-STATE_LENGTH.true in
     (rw short, rw short)
 
-returns-2 : tie.Need-returns-2
+returns-2 : tie.Need-returns
 returns-2 c =
     let put = c.before.before in
     let made = put.before in
     let tested = made.before.before in
-    let long = le-ltb (length tested.before.before.args.state.now) state_length tested.if1.false in
-    (rw long, rw long (put.put-state.ensures ∙ ap (λ (l : Line). sets tested.before.before.args.state.now 0 (state_bytes l)) made.unopened.ensures))
+    let long = le-ltb (length tested.args.state.now) state_length tested.if-state-lt-STATE_LENGTH.false in
+    (rw long, rw long (put.put_state.ensures ∙ ap (λ (l : Line). sets tested.args.state.now 0 (state_bytes l)) made.unopened.ensures))
 
-pub put-unopened-spec : {M : Type 1} → statement M
-put-unopened-spec =
+pub put_unopened_spec : {M : Type 1} → statement M
+put_unopened_spec =
     tie.close
     (tie.spec
     returns

@@ -4,11 +4,11 @@ use Rattle.state_calls.proofs.Answers.{not_refused}
 use Rattle.state_calls.proofs.status_of.Statement.{statement}
 use Rattle.state_calls.proofs.status_of.Tie as tie
 
-returns-2 : tie.Need-returns-2
-returns-2 c = rw (← not_refused c.before.args.answer c.match.keys2)
+returns-2 : tie.Need-returns-in_default
+returns-2 c = rw (← not_refused c.args.answer c.in_default.in_default-own.keys2)
 
-pub status-of-spec : {M : Type 1} → statement M
-status-of-spec =
+pub status_of_spec : {M : Type 1} → statement M
+status_of_spec =
     tie.close
     (tie.spec
     (λ c. search rules)

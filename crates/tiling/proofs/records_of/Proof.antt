@@ -17,16 +17,16 @@ use Rattle.tiling.proofs.Walk.{ends_in, order_room, shown_more, ends_here, ends_
 use Rattle.tiling.proofs.records_of.Statement.{statement}
 use Rattle.tiling.proofs.records_of.Tie as tie
 
-abbrev invariant-loop : tie.invariant-loop
+abbrev invariant-loop : tie.invariant-loop-i
 invariant-loop block used records₀ at₀ i₀ records at i =
     (sets records at (shown_records (drop i (take used block))) ≡ shown_records (take used block) ++ replicate (most_extent - lengths (take used block)) 0)
     × (at + lengths (drop i (take used block)) ≤ most_extent)
     × (all_pass ends_in (drop i (take used block)) ≡ true)
 
-abbrev decreases-loop : tie.decreases-loop
+abbrev decreases-loop : tie.decreases-loop-i
 decreases-loop block used records₀ at₀ i₀ records at i = used - i
 
-loop-holds : tie.Need-loop-init invariant-loop decreases-loop
+loop-holds : tie.Need-loop-i-init invariant-loop decreases-loop
 loop-holds c =
     let start = c.before.before in
     let v = start.args.view in
@@ -35,36 +35,36 @@ loop-holds c =
     (table_start (take v.used v.block) most_extent few, omega arith, room.1)
 
 -- the blocks of the view, of which the loop takes the next
-eight : (c : tie.After-struct-known invariant-loop decreases-loop) → length c.before.before.args.view.block ≡ 8
-eight c = let g = c.before.before.well-formed in search (length_unmapped, g)
+eight : (c : tie.After-struct_known-1 invariant-loop decreases-loop) → length c.before.before.args.view.block ≡ 8
+eight c = let g = c.before.before.well_formed in search (length_unmapped, g)
 
-used_in : (c : tie.After-struct-known invariant-loop decreases-loop) → c.before.before.args.view.used ≤ length c.before.before.args.view.block
+used_in : (c : tie.After-struct_known-1 invariant-loop decreases-loop) → c.before.before.args.view.used ≤ length c.before.before.args.view.block
 used_in c = omega (arith, eight c, c.before.before.requires.few)
 
-array-copy-out-b : tie.Need-array-copy-out-b invariant-loop decreases-loop
-array-copy-out-b c = omega (arith, c.loop-test.true, c.before.before.before.before.requires.few)
+array-copy-out-b : tie.Need-bounds-block-i invariant-loop decreases-loop
+array-copy-out-b c = omega (arith, c.loop-i-test.true, c.requires.few)
 
-mul-b : tie.Need-overflow-mul-b invariant-loop decreases-loop
+mul-b : tie.Need-offset_bounds-block-i invariant-loop decreases-loop
 mul-b c = omega (arith, array-copy-out-b c)
 
-store-block-requires : tie.Need-store-block-requires invariant-loop decreases-loop
+store-block-requires : tie.Need-store_block-requires invariant-loop decreases-loop
 store-block-requires c κs =
     let in-loop = c.before.before in
-    let lp = in-loop.before.loop in
+    let lp = in-loop.loop-i in
     let known = in-loop.before.before in
-    let v = known.before.before.args.view in
-    let more = lengths_more v.block lp.i v.used in-loop.loop-test.true (used_in known) in
-    (omega (arith, lp.invariant.1), ends_here v.block lp.i v.used in-loop.loop-test.true (used_in known) lp.invariant.2)
+    let v = known.args.view in
+    let more = lengths_more v.block lp.i v.used in-loop.loop-i-test.true (used_in known) in
+    (omega (arith, lp.invariant.1), ends_here v.block lp.i v.used in-loop.loop-i-test.true (used_in known) lp.invariant.2)
 
-loop-again : tie.Need-loop-preserved invariant-loop decreases-loop
+loop-again : tie.Need-loop-i-preserved invariant-loop decreases-loop
 loop-again c =
     let in-loop = c.before.before.before.before in
-    let lp = in-loop.before.loop in
+    let lp = in-loop.loop-i in
     let known = in-loop.before.before in
-    let v = known.before.before.args.view in
-    let taken = in-loop.loop-test.true in
+    let v = known.args.view in
+    let taken = in-loop.loop-i-test.true in
     let more = lengths_more v.block lp.i v.used taken (used_in known) in (
-      rw c.before.store-block.ensures (shown_more v.block lp.i v.used taken (used_in known) lp.records lp.at ∙ lp.invariant.0),
+      rw c.store_block.ensures (shown_more v.block lp.i v.used taken (used_in known) lp.records lp.at ∙ lp.invariant.0),
       omega (arith, lp.invariant.1),
       ends_more v.block lp.i v.used taken (used_in known) lp.invariant.2,
     )
@@ -72,12 +72,12 @@ loop-again c =
 returns : tie.Need-returns invariant-loop decreases-loop
 unfolding records_of shown_records
 returns c =
-    let lp = c.before.loop in
-    let v = c.before.before.before.before.args.view in
-    rw (none_left v.block lp.i v.used c.loop-test.false) at lp.invariant.0
+    let lp = c.loop-i in
+    let v = c.args.view in
+    rw (none_left v.block lp.i v.used c.loop-i-test.false) at lp.invariant.0
 
-pub records-of-spec : {M : Type 1} → statement M
-records-of-spec =
+pub records_of_spec : {M : Type 1} → statement M
+records_of_spec =
     tie.close
     (tie.spec
     invariant-loop

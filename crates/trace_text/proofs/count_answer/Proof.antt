@@ -12,23 +12,21 @@ use Rattle.trace_text.specs.Trace.{refusal_of}
 use Rattle.trace_text.proofs.count_answer.Statement.{statement}
 use Rattle.trace_text.proofs.count_answer.Tie as tie
 
-returns : tie.Need-returns
+returns : tie.Need-returns-then-k-ge-COUNTS
 returns c =
-    let s = c.before.before in
-    let past : length s.args.t1 ≤ refusal_of s.args.answer = rw (← c.before.refusal-of.ensures) (omega (arith, c.if1.true, s.well-formed)) in
-    sym (set_out s.args.t1 (refusal_of s.args.answer) _ past)
+    let past : length c.args.counts ≤ refusal_of c.args.answer = rw (← c.refusal_of-k.ensures) (omega (arith, c.if-k-ge-COUNTS.true, c.well_formed)) in
+    sym (set_out c.args.counts (refusal_of c.args.answer) _ past)
 
-add-after : tie.Need-overflow-add-after
+add-after : tie.Need-overflow_add-after
 add-after c =
-    let s = c.before.before in
-    let small = leb-true (get_or s.args.t1 c.before.refusal-of.result 0) 18446744073709551614 (all_get_d (λ (n : ℕ). leb n 18446744073709551614) s.args.t1 c.before.refusal-of.result 0 s.requires refl) in
+    let small = leb-true (get_or c.args.counts c.refusal_of-k.result 0) 18446744073709551614 (all_get_d (λ (n : ℕ). leb n 18446744073709551614) c.args.counts c.refusal_of-k.result 0 c.requires refl) in
     record { fits = omega (arith, small) }
 
-returns-2 : tie.Need-returns-2
-returns-2 c = rw c.before.refusal-of.ensures
+returns-2 : tie.Need-returns
+returns-2 c = rw c.refusal_of-k.ensures
 
-pub count-answer-spec : {M : Type 1} → statement M
-count-answer-spec =
+pub count_answer_spec : {M : Type 1} → statement M
+count_answer_spec =
     tie.close
     (tie.spec
     (λ c κs. search rules)

@@ -6,19 +6,19 @@ use Rattle.trace_text.proofs.Widths.{columned_words, words_past}
 use Rattle.trace_text.proofs.put_event_column.Statement.{statement}
 use Rattle.trace_text.proofs.put_event_column.Tie as tie
 
-end-column-requires : tie.Need-end-column-requires
+end-column-requires : tie.Need-end_column-requires
 unfolding event_words
-end-column-requires c κs = (words_past _ _ c.before.before.before.put-event.ensures.0, omega (arith, c.before.before.before.put-event.ensures.1, c.before.before.before.before.before.before.requires))
+end-column-requires c κs = (words_past _ _ c.put_event-end.ensures.0, omega (arith, c.put_event-end.ensures.1, c.requires))
 
 returns : tie.Need-returns
 unfolding event_words
 returns c = (
-  columned_words _ _ c.before.before.before.before.before.before.put-event.ensures.0 39 c.before.before.end-column.ensures.0,
-  omega (arith, c.before.before.end-column.ensures.1, c.before.before.before.before.before.before.put-event.ensures.1),
+  columned_words _ _ c.put_event-end.ensures.0 39 c.end_column.ensures.0,
+  omega (arith, c.end_column.ensures.1, c.put_event-end.ensures.1),
 )
 
-pub put-event-column-spec : {M : Type 1} → statement M
-put-event-column-spec =
+pub put_event_column_spec : {M : Type 1} → statement M
+put_event_column_spec =
     tie.close
     (tie.spec
     (λ c κs. search rules)

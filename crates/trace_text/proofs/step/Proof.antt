@@ -6,22 +6,21 @@ use Rattle.trace_text.proofs.Within.{ended_goes_on, event_goes_on}
 use Rattle.trace_text.proofs.step.Statement.{statement}
 use Rattle.trace_text.proofs.step.Tie as tie
 
-returns : tie.Need-returns
+returns : tie.Need-returns-in-Event
 returns c =
-    let s = c.before.before.before.before.before.before.before.before.before.before.before.before.before.before in
-    let read = sym c.before.before.before.before.before.before.before.before.before.before.read-event.ensures ∙ c.before.before.before.before.before.before.before.before.reading.given.1 in
-    let m = c.before.before.before.before.step-event.ensures in
-    (rw read m, event_goes_on s.args.from s.args.sheet.now s.args.book.now _ _ _ s.requires.within read m.next)
+    let read = sym c.read_event-reading.ensures ∙ c.in-Event.is in
+    let m = c.step_event.ensures in
+    (rw read m, event_goes_on c.args.from c.args.sheet.now c.args.book.now _ _ _ c.requires.within read m.next)
 
-returns-2 : tie.Need-returns-2
+returns-2 : tie.Need-returns-in-End
 returns-2 c =
-    let read = sym c.before.before.read-event.ensures ∙ c.enum_told.given.1 in
+    let read = sym c.read_event-reading.ensures ∙ c.in-End.is in
     (rw read (record { text = record { bytes = refl; ends = refl }; next = refl; book = refl; more = refl; short = omega arith }), ended_goes_on _ _ _ refl)
 
-returns-3 : tie.Need-returns-3
+returns-3 : tie.Need-returns-in-Refused
 returns-3 c =
-    let read = sym c.before.before.before.before.before.before.before.before.read-event.ensures ∙ c.before.before.before.before.before.before.reading2.given.1 in
-    let m = c.before.before.step-refused.ensures in
+    let read = sym c.read_event-reading.ensures ∙ c.in-Refused.is in
+    let m = c.step_refused.ensures in
     (rw read m, ended_goes_on _ _ _ m.more)
 
 pub step_spec : {M : Type 1} → statement M

@@ -7,20 +7,20 @@ use Rattle.trace_text.proofs.step_event.Tie as tie
 
 returns : tie.Need-returns
 returns c =
-    let m = c.before.before.before.before.before.before.before.before.before.before.before.before.before.before.before.before.before.call-event.ensures in
-    let r = c.before.before.before.before.put-result in
-    let e = c.before.before.before.before.before.before.before.before.put-event-column in
-    let n = c.before.before.before.before.before.before.before.before.before.before.before.before.put-event-number in
+    let m = c.call_event-outcome.ensures in
+    let r = c.put_result-length in
+    let e = c.put_event_column-to_answer in
+    let n = c.put_event_number-to_event in
     record {
       text = rw (← m.answer, ← m.line) (and_then n.ensures.0 (and_then e.ensures.0 r.ensures.0));
-      next = rw (← m.answer, ← m.line) c.before.go_on.ensures;
+      next = rw (← m.answer, ← m.line) c.go_on.ensures;
       book = m.book;
-      more = rw (c.ends-run.ensures, m.answer);
+      more = rw (c.ends_run.ensures, m.answer);
       short = omega (arith, r.ensures.1, e.ensures.1, n.ensures.1);
     }
 
-pub step-event-spec : {M : Type 1} → statement M
-step-event-spec =
+pub step_event_spec : {M : Type 1} → statement M
+step_event_spec =
     tie.close
     (tie.spec
     (λ c κs. search rules)

@@ -8,9 +8,9 @@ use Rattle.trace_text.proofs.step_refused.Tie as tie
 
 returns : tie.Need-returns
 returns c =
-    let r = c.before.before.before.put-result in
-    let e = c.before.before.before.before.before.before.before.put-byte-column in
-    let n = c.before.before.before.before.before.before.before.before.before.before.before.put-event-number in
+    let r = c.put_result-length in
+    let e = c.put_byte_column-to_answer in
+    let n = c.put_event_number-to_byte in
     record {
       text = and_then n.ensures.0 (and_then e.ensures.0 r.ensures.0);
       next = c.go_on.ensures;
@@ -19,8 +19,8 @@ returns c =
       short = omega (arith, r.ensures.1, e.ensures.1, n.ensures.1);
     }
 
-pub step-refused-spec : {M : Type 1} → statement M
-step-refused-spec =
+pub step_refused_spec : {M : Type 1} → statement M
+step_refused_spec =
     tie.close
     (tie.spec
     (λ c κs. search rules)

@@ -6,40 +6,40 @@ use lib.ListN.{length-set}
 use Rattle.wait_counts.proofs.end_wait.Statement.{statement}
 use Rattle.wait_counts.proofs.end_wait.Tie as tie
 
-returns : tie.Need-returns
-returns c = rw c.if1.true
+returns : tie.Need-returns-then-mark-eq0
+returns c = rw c.if-mark-eq0.true
 
-sub-releases : tie.Need-overflow-sub-releases
-sub-releases c = let P = c.before.before.before.before.requires in omega (arith, P.0.mark _ P.2)
+sub-releases : tie.Need-overflow_sub-releases
+sub-releases c = let P = c.requires in omega (arith, P.0.mark _ P.2)
 
 -- the counts are long enough, and their sums far from any bound
-add-counts : tie.Need-overflow-add-counts
+add-counts : tie.Need-overflow_add-counts
 add-counts c =
-    let P = c.before.before.before.before.before.before.before.requires in
+    let P = c.requires in
     let t = P.0.times _ P.2 in
     let s = P.0.sum _ P.2 in
     record { fits = omega (arith, P.1) }
 
-add-counts-3 : tie.Need-overflow-add-counts-3
+add-counts-3 : tie.Need-overflow_add-counts-3
 add-counts-3 c =
-    let P = c.before.before.before.before.before.before.before.requires in
+    let P = c.requires in
     let s = P.0.sum _ P.2 in
     record { fits = omega (arith, P.1) }
 
-slice-write-counts-2 : tie.Need-slice-write-counts-2
-slice-write-counts-2 c = let P = c.before.before.before.before.before.before.before.requires in simp length-set (omega (arith, P.0.long, P.2))
+slice-write-counts-2 : tie.Need-bounds-counts-at-6
+slice-write-counts-2 c = let P = c.requires in simp length-set (omega (arith, P.0.long, P.2))
 
-slice-write-counts-3 : tie.Need-slice-write-counts-3
-slice-write-counts-3 c = let P = c.before.before.before.before.before.before.before.requires in simp length-set (omega (arith, P.0.long, P.2))
+slice-write-counts-3 : tie.Need-bounds-counts-at-7
+slice-write-counts-3 c = let P = c.requires in simp length-set (omega (arith, P.0.long, P.2))
 
-slice-write-counts-4 : tie.Need-slice-write-counts-4
-slice-write-counts-4 c = let P = c.before.before.before.before.before.before.before.before.requires in simp length-set (omega (arith, P.0.long, P.2))
+slice-write-counts-4 : tie.Need-bounds-counts-at-8
+slice-write-counts-4 c = let P = c.requires in simp length-set (omega (arith, P.0.long, P.2))
 
-returns-2 : tie.Need-returns-2
-returns-2 c = rw (ne_eqb _ _ c.before.before.before.before.before.if1.false, c.greater.ensures)
+returns-2 : tie.Need-returns
+returns-2 c = rw (ne_eqb _ _ c.if-mark-eq0.false, c.greater.ensures)
 
-pub end-wait-spec : {M : Type 1} → statement M
-end-wait-spec =
+pub end_wait_spec : {M : Type 1} → statement M
+end_wait_spec =
     tie.close
     (tie.spec
     (λ c. search rules)

@@ -9,41 +9,41 @@ use Rattle.wait_counts.proofs.Growing.{all_below, grown_more, grown_none, lane_b
 use Rattle.wait_counts.proofs.grow.Statement.{statement}
 use Rattle.wait_counts.proofs.grow.Tie as tie
 
-abbrev invariant-loop : tie.invariant-loop
+abbrev invariant-loop : tie.invariant-loop-i
 invariant-loop counts grown₀ i₀ grown i = (grown ≡ grown_to i grown₀ counts) × (i ≤ most_lanes)
 
-abbrev decreases-loop : tie.decreases-loop
+abbrev decreases-loop : tie.decreases-loop-i
 decreases-loop counts grown₀ i₀ grown i = most_lanes - i
 
-loop-holds : tie.Need-loop-init invariant-loop decreases-loop
+loop-holds : tie.Need-loop-i-init invariant-loop decreases-loop
 loop-holds c = (grown_none _ _, omega arith)
 
-join-waits-requires : tie.Need-join-waits-requires invariant-loop decreases-loop
+join-waits-requires : tie.Need-join_waits-requires invariant-loop decreases-loop
 join-waits-requires c κs =
     let l = c.before.before in
     let s = l.before.before in
     let P = s.requires in
-    record { below = lane_below s.args.report s.args.counts.now P l.loop.grown l.loop.i l.loop.invariant.0 c.before.loop-test.true; consistent = P.consistent; few = P.few; inside = c.before.loop-test.true }
+    record { below = lane_below s.args.report s.args.counts.now P l.loop-i.grown l.loop-i.i l.loop-i.invariant.0 c.loop-i-test.true; consistent = P.consistent; few = P.few; inside = c.loop-i-test.true }
 
-join-waits-requires-2 : tie.Need-join-waits-requires-2 invariant-loop decreases-loop
+join-waits-requires-2 : tie.Need-join_waits-grown-requires invariant-loop decreases-loop
 join-waits-requires-2 c κs =
     let t = c.before.before.before in
     let l = t.before in
     let s = l.before.before in
     let P = s.requires in
-    record { below = all_below s.args.report s.args.counts.now P l.loop.grown l.loop.i l.loop.invariant.0 t.loop-test.true; consistent = P.consistent; few = P.few; inside = t.loop-test.true }
+    record { below = all_below s.args.report s.args.counts.now P l.loop-i.grown l.loop-i.i l.loop-i.invariant.0 t.loop-i-test.true; consistent = P.consistent; few = P.few; inside = t.loop-i-test.true }
 
-loop-again : tie.Need-loop-preserved invariant-loop decreases-loop
+loop-again : tie.Need-loop-i-preserved invariant-loop decreases-loop
 loop-again c =
     let t = c.before.before.before.before in
     let l = t.before in
     let s = l.before.before in
-    (rw (c.join-waits2.ensures, c.before.before.join-waits.ensures) (grown_more s.args.report s.args.counts.now l.loop.grown l.loop.i l.loop.invariant.0), omega (arith, t.loop-test.true))
+    (rw (c.join_waits-grown.ensures, c.join_waits.ensures) (grown_more s.args.report s.args.counts.now l.loop-i.grown l.loop-i.i l.loop-i.invariant.0), omega (arith, t.loop-i-test.true))
 
 returns : tie.Need-returns invariant-loop decreases-loop
 returns c =
-    let e : c.before.loop.i ≡ most_lanes = omega (arith, c.before.loop.invariant.1, c.loop-test.false) in
-    rw e at c.before.loop.invariant.0
+    let e : c.loop-i.i ≡ most_lanes = omega (arith, c.loop-i.invariant.1, c.loop-i-test.false) in
+    rw e at c.loop-i.invariant.0
 
 pub grow_spec : {M : Type 1} → statement M
 grow_spec =

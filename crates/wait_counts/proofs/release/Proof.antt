@@ -9,26 +9,26 @@ use Rattle.wait_counts.proofs.Slots.{release_count, release_consistent}
 use Rattle.wait_counts.proofs.release.Statement.{statement}
 use Rattle.wait_counts.proofs.release.Tie as tie
 
-end-wait-requires : tie.Need-end-wait-requires
+end-wait-requires : tie.Need-end_wait-requires
 end-wait-requires c κs =
-    let P = c.before.before.before.before.before.before.before.requires in
+    let P = c.requires in
     let few = P.few in
-    (release_consistent _ P.consistent, rw (release_count _ P.consistent) (omega arith), c.entry-of.ensures.1)
+    (release_consistent _ P.consistent, rw (release_count _ P.consistent) (omega arith), c.entry_of.ensures.1)
 
-same_length : tie.Need-same-length
+same_length : tie.Need-shape_of-counts-in-Lane
 same_length c =
     let e = c.before.before in
-    let l = e.before.before.before.before.before.before.before.before.args.counts.now in
-    e.end-wait.auto.0 ∙ length-set l releases_at (releases_in l + 1)
+    let l = e.args.counts.now in
+    e.end_wait.auto.counts ∙ length-set l releases_at (releases_in l + 1)
 
-returns : tie.Need-returns
+returns : tie.Need-returns-in-Lane
 returns c =
     let e = c.before.before in
-    let l = e.before.before.before.before.before.before.before.before.args.counts.now in
-    rw e.before.before.before.before.wakes.given.1 (e.end-wait.ensures ∙ ap (ended (one_release l)) e.before.entry-of.ensures.0)
+    let l = e.args.counts.now in
+    rw e.in-Lane.is (e.end_wait.ensures ∙ ap (ended (one_release l)) e.entry_of.ensures.0)
 
-returns-2 : tie.Need-returns-2
-returns-2 c = rw c.enum_told.given.1
+returns-2 : tie.Need-returns-in_default
+returns-2 c = rw c.in_default.is
 
 pub release_spec : {M : Type 1} → statement M
 release_spec =

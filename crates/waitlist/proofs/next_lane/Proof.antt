@@ -31,24 +31,24 @@ next_told lanes flags releaser end own rest lane to most of under told =
     rw (next_in_row flags lanes releaser, ← to, ← of, ← under)
     (lane_found most_lanes lane (or_else (first_raised flags (own + 1) (end - (own + 1))) (first_raised flags 0 rest)) (below_most flags (own + 1) end rest most (omega arith)) told)
 
-abbrev start : tie.After-first-raised → tie.Start
+abbrev start : tie.After-first_raised-lane → tie.Start
 start c = c.before.before.before.before.before
 
-told : (c : tie.After-first-raised)
-    → lane_below most_lanes c.first-raised.result ≡ next_lane (start c).args.lanes (set (start c).args.flags.now (start c).args.releaser 0) (start c).args.releaser
+told : (c : tie.After-first_raised-lane)
+    → lane_below most_lanes c.first_raised-lane.result ≡ next_lane (start c).args.lanes (set (start c).args.flags.now (start c).args.releaser 0) (start c).args.releaser
 told c =
     let own = c.before.before in
     let end = own.before in
-    next_told (start c).args.lanes (start c).args.flags.now (start c).args.releaser _ _ _ _ end.end_of_lem.ensures (omega (arith, end.end_of_lem.ensures, end.before.end-of-arg.given.0)) own.index.ensures c.before.least.ensures c.first-raised.ensures
+    next_told (start c).args.lanes (start c).args.flags.now (start c).args.releaser _ _ _ _ end.end_of-end.ensures (omega (arith, end.end_of-end.ensures, end.end_of-arg-1.given)) own.index-own.ensures c.least.ensures c.first_raised-lane.ensures
 
-returns : tie.Need-returns
-returns c = rw (lt-ltb _ _ c.if1.true) at (told c.before)
+returns : tie.Need-returns-then-lane-lt-MOST_LANES
+returns c = rw (lt-ltb _ _ c.if-lane-lt-MOST_LANES.true) at (told c.before)
 
-returns-2 : tie.Need-returns-2
-returns-2 c = rw (le-ltb _ _ c.if1.false) at (told c.before)
+returns-2 : tie.Need-returns
+returns-2 c = rw (le-ltb _ _ c.if-lane-lt-MOST_LANES.false) at (told c.before)
 
-pub next-lane-spec : {M : Type 1} → statement M
-next-lane-spec =
+pub next_lane_spec : {M : Type 1} → statement M
+next_lane_spec =
     tie.close
     (tie.spec
     (λ c κs. search rules)

@@ -10,39 +10,34 @@ use Rattle.word_text.proofs.put_count.Statement.{statement}
 use Rattle.word_text.proofs.put_count.Tie as tie
 
 -- ---- one digit
-slice-write-out-2 : tie.Need-slice-write-out-2
+slice-write-out-2 : tie.Need-bounds-out-at-then-n-lt10
 slice-write-out-2 c =
-    let s = c.before.before in
-    simp length-set (omega (arith, s.requires, last_length s.args.n c.if1.true))
+    simp length-set (omega (arith, c.requires, last_length c.args.n c.if-n-lt10.true))
 
-returns : tie.Need-returns
+returns : tie.Need-returns-then-n-lt10
 returns c =
-    let a = c.before.before.args in
-    rw (decimal_last a.n c.if1.true) (then_byte 1 a.after (one_byte a.out.now a.at (48 + a.n)))
+    let a = c.args in
+    rw (decimal_last a.n c.if-n-lt10.true) (then_byte 1 a.after (one_byte a.out.now a.at (48 + a.n)))
 
 -- ---- two digits
-room : (c : tie.Then2) → let a = c.before.before.before.args in a.at + 3 ≤ length a.out.now
+room : (c : tie.Then-n-lt100) → let a = c.args in a.at + 3 ≤ length a.out.now
 room c =
-    let s = c.before.before.before in
-    omega (arith, s.requires, ap length (decimal_two s.args.n c.before.if1.false c.if2.true))
+    omega (arith, c.requires, ap length (decimal_two c.args.n c.if-n-lt10.false c.if-n-lt100.true))
 
-put-pair-requires : tie.Need-put-pair-requires
-put-pair-requires c κs = (c.before.if2.true, omega (arith, room c.before))
+put-pair-requires : tie.Need-put_pair-end-requires
+put-pair-requires c κs = (c.if-n-lt100.true, omega (arith, room c.before))
 
-slice-write-out-3 : tie.Need-slice-write-out-3
+slice-write-out-3 : tie.Need-bounds-out-end
 slice-write-out-3 c =
-    let call = c.before.before in
-    omega (arith, room call.before.before, call.put-pair.ensures.ends, stored_length call.put-pair.ensures)
+    omega (arith, room c.before.before.before.before, c.put_pair-end.ensures.ends, stored_length c.put_pair-end.ensures)
 
-returns-2 : tie.Need-returns-2
+returns-2 : tie.Need-returns-then-n-lt100
 returns-2 c =
-    let call = c.before.before in
-    let small = call.before.before in
-    let a = small.before.before.before.args in
-    rw (decimal_two a.n small.before.if1.false small.if2.true) (and_then call.put-pair.ensures (one_byte _ _ _))
+    let a = c.args in
+    rw (decimal_two a.n c.if-n-lt10.false c.if-n-lt100.true) (and_then c.put_pair-end.ensures (one_byte _ _ _))
 
-pub put-count-spec : {M : Type 1} → statement M
-put-count-spec =
+pub put_count_spec : {M : Type 1} → statement M
+put_count_spec =
     tie.close
     (tie.spec
     (λ c. search rules)

@@ -7,25 +7,23 @@ use borrow.Author.Rules.{rules}
 use Rattle.word_text.proofs.put_freed.Statement.{statement}
 use Rattle.word_text.proofs.put_freed.Tie as tie
 
-put-word-requires : tie.Need-put-word-requires
+put-word-requires : tie.Need-put_word-next-requires
 put-word-requires c κs =
-    let s = c.before.before.before in
-    omega (arith, s.requires, wakes_length (ascii "freed") s.args.wakes)
+    omega (arith, c.requires, wakes_length (ascii "freed") c.args.wakes)
 
-put-wakes-requires : tie.Need-put-wakes-requires
+put-wakes-requires : tie.Need-put_wakes-requires
 put-wakes-requires c κs =
-    let call = c.before.before.before in
-    let s = call.before.before.before.before in
-    omega (arith, s.requires, wakes_length (ascii "freed") s.args.wakes, past (ascii "freed") _ call.put_word.ensures)
+    omega (arith, c.requires, wakes_length (ascii "freed") c.args.wakes, past (ascii "freed") _ c.put_word-next.ensures)
 
 returns : tie.Need-returns
 returns c =
-    let call2 = c.before.before in
-    let call1 = call2.before.before.before.before in
-    let s = call1.before.before.before.before in
-    rw (before_wakes (ascii "freed") s.args.wakes) (and_then call1.put_word.ensures call2.put-wakes.ensures)
+    rw (before_wakes (ascii "freed") c.args.wakes) (and_then c.put_word-next.ensures c.put_wakes.ensures)
 
-pub put-freed-spec : {M : Type 1} → statement M
-put-freed-spec =
+pub put_freed_spec : {M : Type 1} → statement M
+put_freed_spec =
     tie.close
-    (tie.spec (λ c. search rules) put-word-requires put-wakes-requires (λ c. search rules) returns)
+    (tie.spec
+    put-word-requires
+    put-wakes-requires
+    (λ c. search rules)
+    returns)

@@ -5,8 +5,8 @@ use Rattle.word_text.proofs.put_number.Statement.{statement}
 use Rattle.word_text.proofs.put_number.Tie as tie
 
 returns : tie.Need-returns
-returns c = and_then c.before.before.put-decimal.ensures (one_byte _ _ _)
+returns c = and_then c.put_decimal-end.ensures (one_byte _ _ _)
 
-pub put-number-spec : {M : Type 1} → statement M
-put-number-spec =
+pub put_number_spec : {M : Type 1} → statement M
+put_number_spec =
     tie.close (tie.spec (λ c κs. search rules) (λ c. search rules) (λ c. search rules) (λ c. search rules) returns)

@@ -7,24 +7,19 @@ use borrow.Author.Rules.{rules}
 use Rattle.word_text.proofs.put_one.Statement.{statement}
 use Rattle.word_text.proofs.put_one.Tie as tie
 
-put-word-requires : tie.Need-put-word-requires
+put-word-requires : tie.Need-put_word-next-requires
 put-word-requires c κs =
-    let s = c.before.before.before in
-    omega (arith, s.requires, one_length s.args.word.now (decimal s.args.n))
+    omega (arith, c.requires, one_length c.args.word.now (decimal c.args.n))
 
-put-number-requires : tie.Need-put-number-requires
+put-number-requires : tie.Need-put_number-requires
 put-number-requires c κs =
-    let call = c.before.before.before in
-    let s = call.before.before.before.before in
-    let word = s.args.word.now in
-    omega (arith, s.requires, one_length word (decimal s.args.n), past word _ call.put_word.ensures)
+    let word = c.args.word.now in
+    omega (arith, c.requires, one_length word (decimal c.args.n), past word _ c.put_word-next.ensures)
 
 returns : tie.Need-returns
 unfolding words
 returns c =
-    let call2 = c.before.before in
-    let call1 = call2.before.before.before.before in
-    and_then call1.put_word.ensures call2.put-number.ensures
+    and_then c.put_word-next.ensures c.put_number.ensures
 
-pub put-one-spec : {M : Type 1} → statement M
-put-one-spec = tie.close (tie.spec put-word-requires put-number-requires (λ c. search rules) returns)
+pub put_one_spec : {M : Type 1} → statement M
+put_one_spec = tie.close (tie.spec put-word-requires put-number-requires (λ c. search rules) returns)

@@ -8,70 +8,54 @@ use borrow.Author.Rules.{rules}
 use Rattle.word_text.proofs.put_region.Statement.{statement}
 use Rattle.word_text.proofs.put_region.Tie as tie
 
-put-word-requires : tie.Need-put-word-requires
+put-word-requires : tie.Need-put_word-first-requires
 put-word-requires c κs =
-    let s = c.before.before.before in
-    omega (arith, s.requires, region_length (decimal s.args.start) (decimal s.args.count) s.args.wakes)
+    omega (arith, c.requires, region_length (decimal c.args.start) (decimal c.args.count) c.args.wakes)
 
-put-number-requires : tie.Need-put-number-requires
+put-number-requires : tie.Need-put_number-second-requires
 put-number-requires c κs =
-    let call = c.before.before.before in
-    let s = call.before.before.before.before in
     omega (
       arith,
-      s.requires,
-      region_length (decimal s.args.start) (decimal s.args.count) s.args.wakes,
-      past (ascii "region") _ call.put_word.ensures,
+      c.requires,
+      region_length (decimal c.args.start) (decimal c.args.count) c.args.wakes,
+      past (ascii "region") _ c.put_word-first.ensures,
     )
 
-put-count-requires : tie.Need-put-count-requires
+put-count-requires : tie.Need-put_count-third-requires
 put-count-requires c κs =
-    let call2 = c.before.before.before in
-    let call1 = call2.before.before.before.before in
-    let s = call1.before.before.before.before in
-    let start = decimal s.args.start in
-    let count = decimal s.args.count in
+    let start = decimal c.args.start in
+    let count = decimal c.args.count in
     omega (
       arith,
-      s.requires,
-      region_length start count s.args.wakes,
-      past (ascii "region") _ call1.put_word.ensures,
-      past start _ call2.put-number.ensures,
+      c.requires,
+      region_length start count c.args.wakes,
+      past (ascii "region") _ c.put_word-first.ensures,
+      past start _ c.put_number-second.ensures,
     )
 
-put-wakes-requires : tie.Need-put-wakes-requires
+put-wakes-requires : tie.Need-put_wakes-requires
 put-wakes-requires c κs =
-    let call3 = c.before.before.before in
-    let call2 = call3.before.before.before.before in
-    let call1 = call2.before.before.before.before in
-    let s = call1.before.before.before.before in
-    let start = decimal s.args.start in
-    let count = decimal s.args.count in
+    let start = decimal c.args.start in
+    let count = decimal c.args.count in
     omega (
       arith,
-      s.requires,
-      region_length start count s.args.wakes,
-      past (ascii "region") _ call1.put_word.ensures,
-      past start _ call2.put-number.ensures,
-      past count _ call3.put_count.ensures,
+      c.requires,
+      region_length start count c.args.wakes,
+      past (ascii "region") _ c.put_word-first.ensures,
+      past start _ c.put_number-second.ensures,
+      past count _ c.put_count-third.ensures,
     )
 
 returns : tie.Need-returns
 unfolding words
 returns c =
-    let call4 = c.before.before in
-    let call3 = call4.before.before.before.before in
-    let call2 = call3.before.before.before.before in
-    let call1 = call2.before.before.before.before in
-    let s = call1.before.before.before.before in
-    rw (before_wakes (decimal s.args.count) s.args.wakes)
-    (and_then call1.put_word.ensures (and_then call2.put-number.ensures (and_then call3.put_count.ensures call4.put-wakes.ensures)))
+    rw (before_wakes (decimal c.args.count) c.args.wakes)
+    (and_then c.put_word-first.ensures (and_then c.put_number-second.ensures (and_then c.put_count-third.ensures c.put_wakes.ensures)))
 
-pub put-region-spec : {M : Type 1} → statement M
-put-region-spec =
+pub put_region_spec : {M : Type 1} → statement M
+put_region_spec =
     tie.close
     (tie.spec
-    (λ c. search rules)
     put-word-requires
     put-number-requires
     put-count-requires

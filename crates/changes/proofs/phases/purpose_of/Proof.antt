@@ -12,8 +12,8 @@ whole_book zero a b = absurd (a refl)
 whole_book (suc zero) a b = absurd (b refl)
 whole_book (suc (suc k)) a b = refl
 
-returns-3 : tie.Need-returns-3
-returns-3 c = whole_book _ c.before.if1.false c.if2.false
+returns-3 : tie.Need-returns
+returns-3 c = whole_book _ c.if-code-eq0.false c.if-code-eq1.false
 
-pub purpose-of-spec : {M : Type 1} → statement M
-purpose-of-spec = tie.close (tie.spec (λ c. search rules) (λ c. search rules) returns-3)
+pub purpose_of_spec : {M : Type 1} → statement M
+purpose_of_spec = tie.close (tie.spec (λ c. search rules) (λ c. search rules) returns-3)

@@ -3,11 +3,11 @@ use borrow.Author.Tests.{eq-eqb, ne_eqb}
 use Rattle.changes.proofs.phases.to_write.Statement.{statement}
 use Rattle.changes.proofs.phases.to_write.Tie as tie
 
-returns : tie.Need-returns
-returns c = rw (eq-eqb _ _ c.if1.true)
+returns : tie.Need-returns-then-left-eq0
+returns c = rw (eq-eqb _ _ c.if-left-eq0.true)
 
-returns-2 : tie.Need-returns-2
-returns-2 c = rw (ne_eqb _ _ c.if1.false)
+returns-2 : tie.Need-returns
+returns-2 c = rw (ne_eqb _ _ c.if-left-eq0.false)
 
-pub to-write-spec : {M : Type 1} → statement M
-to-write-spec = tie.close (tie.spec returns returns-2)
+pub to_write_spec : {M : Type 1} → statement M
+to_write_spec = tie.close (tie.spec returns returns-2)

@@ -14,60 +14,60 @@ use borrow.Author.Rules.{rules}
 use Rattle.lane_tests.proofs.regions.mark_lanes.Statement.{statement}
 use Rattle.lane_tests.proofs.regions.mark_lanes.Tie as tie
 
-abbrev invariant-loop : tie.invariant-loop
+abbrev invariant-loop : tie.invariant-loop-i
 invariant-loop words₀ lane i₀ words i = (length words ≡ 1024) × (regions_free words (drop i lane) ≡ regions_free words₀ lane)
 
-abbrev decreases-loop : tie.decreases-loop
+abbrev decreases-loop : tie.decreases-loop-i
 decreases-loop words₀ lane i₀ words i = most_lanes - i
 
-loop-holds : tie.Need-loop-init invariant-loop decreases-loop
+loop-holds : tie.Need-loop-i-init invariant-loop decreases-loop
 loop-holds c = (c.requires.0, refl)
 
 -- the lane of this turn
-abbrev phase_at : tie.After-l invariant-loop decreases-loop → Phase
-phase_at c = (get_or c.before.before.before.args.t2 c.before.before.loop.i idle_lane).phase
+abbrev phase_at : tie.After-l-1 invariant-loop decreases-loop → Phase
+phase_at c = (get_or c.args.lane c.loop-i.i idle_lane).phase
 
-within : (c : tie.After-l invariant-loop decreases-loop) → region_within (phase_at c) ≡ true
-within c = all_get_d (on region_within) c.before.before.before.args.t2 c.before.before.loop.i idle_lane c.before.before.before.requires.1 refl
+within : (c : tie.After-l-1 invariant-loop decreases-loop) → region_within (phase_at c) ≡ true
+within c = all_get_d (on region_within) c.args.lane c.loop-i.i idle_lane c.requires.1 refl
 
-mark-places-requires : tie.Need-mark-places-requires invariant-loop decreases-loop
+mark-places-requires : tie.Need-mark_places-requires invariant-loop decreases-loop
 mark-places-requires c κs =
     let at = c.before.before.before.before in
-    let low : 0 < c.before.before.left_in.result → c.before.before.before.IsPlace-in.result.0 + c.before.before.left_in.result ≤ most_pointer =
-    rw (c.before.before.left_in.ensures, c.before.before.before.IsPlace-in.ensures) (region_low (phase_at at) (within at)) in
-    (at.before.before.loop.invariant.0, low)
+    let low : 0 < c.left_in-left.result → c.place_in-place.result.0 + c.left_in-left.result ≤ most_pointer =
+    rw (c.left_in-left.ensures, c.place_in-place.ensures) (region_low (phase_at at) (within at)) in
+    (at.loop-i.invariant.0, low)
 
 -- what marking its region told
-told : (c : tie.After-mark-places invariant-loop decreases-loop)
-    → Marks c.before.before.before.before.before.before.before.loop.words c.mark-places.new.0 (place_in (phase_at c.before.before.before.before.before)).0
-    (left_in (phase_at c.before.before.before.before.before)) c.mark-places.result
-told c = rw (c.before.before.before.left_in.ensures, c.before.before.before.before.IsPlace-in.ensures) at c.mark-places.ensures
+told : (c : tie.After-mark_places invariant-loop decreases-loop)
+    → Marks c.loop-i.words c.mark_places.new.words (place_in (phase_at c.before.before.before.before.before)).0
+    (left_in (phase_at c.before.before.before.before.before)) c.mark_places.result
+told c = rw (c.left_in-left.ensures, c.place_in-place.ensures) at c.mark_places.ensures
 
-returns : tie.Need-returns invariant-loop decreases-loop
+returns : tie.Need-returns-then-not-mark_places invariant-loop decreases-loop
 returns c =
     let loop = c.before.before.before.before.before.before.before.before in
-    let lane = loop.before.args.t2 in
-    let room : loop.loop.i < length lane = search rules in
-    sym (regions_stop loop.loop.words lane loop.loop.i room (sym (told c.before).told ∙ not-true _ c.if1.true)) ∙ loop.loop.invariant.1
+    let lane = loop.args.lane in
+    let room : loop.loop-i.i < length lane = search rules in
+    sym (regions_stop loop.loop-i.words lane loop.loop-i.i room (sym (told c.before).told ∙ not-true _ c.if-not-mark_places.true-raw)) ∙ loop.loop-i.invariant.1
 
-loop-again : tie.Need-loop-preserved invariant-loop decreases-loop
+loop-again : tie.Need-loop-i-preserved invariant-loop decreases-loop
 loop-again c =
     let loop = c.before.before.before.before.before.before.before.before in
-    let lane = loop.before.args.t2 in
-    let room : loop.loop.i < length lane = search rules in
-    let marks = rw (not-false c.before.mark-places.result c.if1.false) at (told c.before) in (
-      marks.size ∙ loop.loop.invariant.0,
-      sym (regions_more loop.loop.words lane loop.loop.i c.before.mark-places.new.0 room loop.before.requires.1 marks) ∙ loop.loop.invariant.1,
+    let lane = loop.args.lane in
+    let room : loop.loop-i.i < length lane = search rules in
+    let marks = rw (not-false c.mark_places.result c.if-not-mark_places.false-raw) at (told c.before) in (
+      marks.size ∙ loop.loop-i.invariant.0,
+      sym (regions_more loop.loop-i.words lane loop.loop-i.i c.mark_places.new.words room loop.requires.1 marks) ∙ loop.loop-i.invariant.1,
     )
 
-returns-2 : tie.Need-returns-2 invariant-loop decreases-loop
+returns-2 : tie.Need-returns invariant-loop decreases-loop
 returns-2 c =
-    let lane = c.before.before.args.t2 in
-    let past : length lane ≤ c.before.loop.i = search rules in
-    sym (regions_end c.before.loop.words lane c.before.loop.i past) ∙ c.before.loop.invariant.1
+    let lane = c.args.lane in
+    let past : length lane ≤ c.loop-i.i = search rules in
+    sym (regions_end c.loop-i.words lane c.loop-i.i past) ∙ c.loop-i.invariant.1
 
-pub mark-lanes-spec : {M : Type 1} → statement M
-mark-lanes-spec =
+pub mark_lanes_spec : {M : Type 1} → statement M
+mark_lanes_spec =
     tie.close
     (tie.spec
     invariant-loop

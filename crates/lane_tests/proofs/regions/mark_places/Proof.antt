@@ -8,53 +8,53 @@ use Rattle.lane_tests.proofs.Places.{Marking, marking_end, marking_more, marking
 use Rattle.lane_tests.proofs.regions.mark_places.Statement.{statement}
 use Rattle.lane_tests.proofs.regions.mark_places.Tie as tie
 
-abbrev invariant-loop : tie.invariant-loop
+abbrev invariant-loop : tie.invariant-loop-left
 invariant-loop words₀ first count k₀ left₀ words k left = Marking words₀ words first count k left
 
-abbrev decreases-loop : tie.decreases-loop
+abbrev decreases-loop : tie.decreases-loop-left
 decreases-loop words₀ first count k₀ left₀ words k left = left
 
-loop-holds : tie.Need-loop-init invariant-loop decreases-loop
+loop-holds : tie.Need-loop-left-init invariant-loop decreases-loop
 loop-holds c = marking_start c.args.words.now c.args.first c.args.count
 
 -- where a place is left, all are low enough for the words
-low : (c : tie.In-loop invariant-loop decreases-loop) → c.before.loop.k + c.before.loop.left ≤ most_pointer
+low : (c : tie.In-loop-left invariant-loop decreases-loop) → c.loop-left.k + c.loop-left.left ≤ most_pointer
 low c =
-    let inv = c.before.loop.invariant in
-    let some = c.loop-test.true in
-    omega (arith, inv.whole, c.before.before.requires.1 (omega (arith, inv.whole, inv.passed, some)))
+    let inv = c.loop-left.invariant in
+    let some = c.loop-left-test.true in
+    omega (arith, inv.whole, c.requires.1 (omega (arith, inv.whole, inv.passed, some)))
 
-element-copy-out-word : tie.Need-element-copy-out-word invariant-loop decreases-loop
-element-copy-out-word c = omega (arith, low c.before.before, c.before.before.loop-test.true)
+element-copy-out-word : tie.Need-bounds-words-k invariant-loop decreases-loop
+element-copy-out-word c = omega (arith, low c.before.before.before, c.loop-left-test.true)
 
-returns : tie.Need-returns invariant-loop decreases-loop
+returns : tie.Need-returns-then-word-mask-ne0 invariant-loop decreases-loop
 returns c =
-    let l = c.before.before.before.before.before in
-    let a = l.before.args in
-    marking_stop a.words.now l.loop.words a.first a.count l.loop.k l.loop.left _ _ l.loop.invariant c.before.before.before.in-word.ensures c.before.before.mask-of.ensures
-    c.if1.true
+    let l = c.before.before.before.before.before.before in
+    let a = l.args in
+    marking_stop a.words.now l.loop-left.words a.first a.count l.loop-left.k l.loop-left.left _ _ l.loop-left.invariant c.in_word-n.ensures c.mask_of-mask.ensures
+    c.if-word-mask-ne0.true
 
-element-write-words : tie.Need-element-write-words invariant-loop decreases-loop
-element-write-words c = omega (arith, low c.before.before.before.before, c.before.before.before.before.loop-test.true)
+element-write-words : tie.Need-bounds-words-k-in-loop-left invariant-loop decreases-loop
+element-write-words c = omega (arith, low c.before.before.before.before.before, c.loop-left-test.true)
 
-add-k : tie.Need-overflow-add-k invariant-loop decreases-loop
-add-k c = record { fits = omega (arith, low c.before.before.before.before, c.before.before.before.in-word.ensures) }
+add-k : tie.Need-overflow_add-k invariant-loop decreases-loop
+add-k c = record { fits = omega (arith, low c.before.before.before.before.before, c.in_word-n.ensures) }
 
-loop-again : tie.Need-loop-preserved invariant-loop decreases-loop
+loop-again : tie.Need-loop-left-preserved invariant-loop decreases-loop
 loop-again c =
-    let l = c.before.before.before.before.before in
-    let a = l.before.args in
-    let room : l.loop.k / 64 < length a.words.now = omega (arith, l.before.requires.0, element-write-words c) in
-    marking_more a.words.now l.loop.words a.first a.count l.loop.k l.loop.left _ _ l.loop.invariant c.before.before.before.in-word.ensures c.before.before.mask-of.ensures
-    room c.if1.false
+    let l = c.before.before.before.before.before.before in
+    let a = l.args in
+    let room : l.loop-left.k / 64 < length a.words.now = omega (arith, l.requires.0, element-write-words c) in
+    marking_more a.words.now l.loop-left.words a.first a.count l.loop-left.k l.loop-left.left _ _ l.loop-left.invariant c.in_word-n.ensures c.mask_of-mask.ensures
+    room c.if-word-mask-ne0.false
 
-returns-2 : tie.Need-returns-2 invariant-loop decreases-loop
+returns-2 : tie.Need-returns invariant-loop decreases-loop
 returns-2 c =
-    let a = c.before.before.args in
-    marking_end a.words.now c.before.loop.words a.first a.count c.before.loop.k c.before.loop.left c.before.loop.invariant c.loop-test.false
+    let a = c.args in
+    marking_end a.words.now c.loop-left.words a.first a.count c.loop-left.k c.loop-left.left c.loop-left.invariant c.loop-left-test.false
 
-pub mark-places-spec : {M : Type 1} → statement M
-mark-places-spec =
+pub mark_places_spec : {M : Type 1} → statement M
+mark_places_spec =
     tie.close
     (tie.spec
     invariant-loop

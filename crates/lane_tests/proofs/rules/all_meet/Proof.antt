@@ -14,44 +14,44 @@ use borrow.Author.Rules.{rules}
 use Rattle.lane_tests.proofs.rules.all_meet.Statement.{statement}
 use Rattle.lane_tests.proofs.rules.all_meet.Tie as tie
 
-abbrev invariant-loop : tie.invariant-loop
+abbrev invariant-loop : tie.invariant-loop-i
 invariant-loop rule line start lane i₀ i = (lane ≡ line.lane) × (length lane ≡ most_lanes) × (all_pass (on (rule_of rule line)) (drop i lane) ≡ all_pass (on (rule_of rule line)) (drop i₀ lane))
 
-abbrev decreases-loop : tie.decreases-loop
+abbrev decreases-loop : tie.decreases-loop-i
 decreases-loop rule line start lane i₀ i = most_lanes - i
 
-loop-holds : tie.Need-loop-init invariant-loop decreases-loop
+loop-holds : tie.Need-loop-i-init invariant-loop decreases-loop
 loop-holds c =
-    let g = c.before.well-formed in
-    let len : length c.before.args.line.lane ≡ most_lanes = search (length_unmapped, g) in
+    let g = c.well_formed in
+    let len : length c.args.line.lane ≡ most_lanes = search (length_unmapped, g) in
     (refl, len, refl)
 
-returns : tie.Need-returns invariant-loop decreases-loop
+returns : tie.Need-returns-then-not-meets invariant-loop decreases-loop
 returns c =
     let loop = c.before.before.before.before in
-    let a = loop.before.before.args in
-    let inv = loop.loop.invariant in
-    let room : loop.loop.i < length loop.before.before.args.line.lane = omega (arith, inv.1) in
-    sym (all_stop (on (rule_of a.rule a.line)) a.line.lane loop.loop.i idle_lane room (sym c.before.meets.ensures ∙ not-true _ c.if1.true))
+    let a = loop.args in
+    let inv = loop.loop-i.invariant in
+    let room : loop.loop-i.i < length loop.args.line.lane = omega (arith, inv.1) in
+    sym (all_stop (on (rule_of a.rule a.line)) a.line.lane loop.loop-i.i idle_lane room (sym c.meets.ensures ∙ not-true _ c.if-not-meets.true-raw))
     ∙ inv.2
 
-loop-again : tie.Need-loop-preserved invariant-loop decreases-loop
+loop-again : tie.Need-loop-i-preserved invariant-loop decreases-loop
 loop-again c =
     let loop = c.before.before.before.before in
-    let a = loop.before.before.args in
-    let inv = loop.loop.invariant in
-    let room : loop.loop.i < length loop.before.before.args.line.lane = omega (arith, inv.1) in
-    (inv.0, inv.1, sym (all_more (on (rule_of a.rule a.line)) a.line.lane loop.loop.i idle_lane room (sym c.before.meets.ensures ∙ not-false _ c.if1.false)) ∙ inv.2)
+    let a = loop.args in
+    let inv = loop.loop-i.invariant in
+    let room : loop.loop-i.i < length loop.args.line.lane = omega (arith, inv.1) in
+    (inv.0, inv.1, sym (all_more (on (rule_of a.rule a.line)) a.line.lane loop.loop-i.i idle_lane room (sym c.meets.ensures ∙ not-false _ c.if-not-meets.false-raw)) ∙ inv.2)
 
-returns-2 : tie.Need-returns-2 invariant-loop decreases-loop
+returns-2 : tie.Need-returns invariant-loop decreases-loop
 returns-2 c =
-    let a = c.before.before.before.args in
-    let inv = c.before.loop.invariant in
-    let past : length c.before.before.before.args.line.lane ≤ c.before.loop.i = omega (arith, inv.1) in
-    sym (all_end (on (rule_of a.rule a.line)) a.line.lane c.before.loop.i idle_lane past) ∙ inv.2
+    let a = c.args in
+    let inv = c.loop-i.invariant in
+    let past : length c.args.line.lane ≤ c.loop-i.i = omega (arith, inv.1) in
+    sym (all_end (on (rule_of a.rule a.line)) a.line.lane c.loop-i.i idle_lane past) ∙ inv.2
 
-pub all-meet-spec : {M : Type 1} → statement M
-all-meet-spec =
+pub all_meet_spec : {M : Type 1} → statement M
+all_meet_spec =
     tie.close
     (tie.spec
     invariant-loop

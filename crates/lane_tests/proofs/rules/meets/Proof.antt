@@ -3,20 +3,20 @@ use borrow.Author.Rules.{rules}
 use Rattle.lane_tests.proofs.rules.meets.Statement.{statement}
 use Rattle.lane_tests.proofs.rules.meets.Tie as tie
 
-returns : tie.Need-returns
-returns c = rw c.before.enum_told.given.1 c.is-idle.ensures
+returns : tie.Need-returns-in-Idle
+returns c = rw c.in-Idle.is c.is_idle.ensures
 
-returns-2 : tie.Need-returns-2
-returns-2 c = rw c.before.enum-told2.given.1 c.is-idle-or-gathered.ensures
+returns-2 : tie.Need-returns-in-IdleOrGathered
+returns-2 c = rw c.in-IdleOrGathered.is c.is_idle_or_gathered.ensures
 
-returns-3 : tie.Need-returns-3
-returns-3 c = rw c.before.enum-told3.given.1 c.value-ok.ensures
+returns-3 : tie.Need-returns-in-Value
+returns-3 c = rw c.in-Value.is c.value_ok.ensures
 
-returns-4 : tie.Need-returns-4
-returns-4 c = rw c.before.enum-told4.given.1 c.region-ok.ensures
+returns-4 : tie.Need-returns-in-Region
+returns-4 c = rw c.in-Region.is c.region_ok.ensures
 
-pub meets-spec : {M : Type 1} → statement M
-meets-spec =
+pub meets_spec : {M : Type 1} → statement M
+meets_spec =
     tie.close
     (tie.spec
     (λ c. search rules)

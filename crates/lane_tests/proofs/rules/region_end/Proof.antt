@@ -4,9 +4,9 @@ use Rattle.lane_tests.proofs.rules.region_end.Statement.{statement}
 use Rattle.lane_tests.proofs.rules.region_end.Tie as tie
 
 returns : tie.Need-returns
-returns c = rw (c.before.before.IsPlace-in.ensures, c.before.left_in.ensures)
+returns c = rw (c.place_in-place.ensures, c.left_in-left.ensures)
 
-pub region-end-spec : {M : Type 1} → statement M
-region-end-spec =
+pub region_end_spec : {M : Type 1} → statement M
+region_end_spec =
     tie.close
     (tie.spec (λ c κs. search rules) (λ c κs. search rules) (λ c. search rules) (λ c. search rules) (λ c. search rules) returns)

@@ -5,13 +5,13 @@ use borrow.Author.Rules.{rules}
 use Rattle.lane_tests.proofs.rules.value_ok.Statement.{statement}
 use Rattle.lane_tests.proofs.rules.value_ok.Tie as tie
 
-returns : tie.Need-returns
-returns c = rw (sym c.before.has-turn.ensures ∙ not-true _ c.if1.true)
+returns : tie.Need-returns-then-not-has_turn
+returns c = rw (sym c.has_turn.ensures ∙ not-true _ c.if-not-has_turn.true-raw)
 
-returns-2 : tie.Need-returns-2
+returns-2 : tie.Need-returns
 returns-2 c =
     let turn = c.before.before.before in
-    rw (sym turn.before.has-turn.ensures ∙ not-false _ turn.if1.false, ← c.before.before.IsPlace-in.ensures)
+    rw (sym turn.has_turn.ensures ∙ not-false _ turn.if-not-has_turn.false-raw, ← c.place_in-value.ensures)
 
-pub value-ok-spec : {M : Type 1} → statement M
-value-ok-spec = tie.close (tie.spec (λ c κs. search rules) returns (λ c κs. search rules) returns-2)
+pub value_ok_spec : {M : Type 1} → statement M
+value_ok_spec = tie.close (tie.spec (λ c κs. search rules) returns (λ c κs. search rules) returns-2)

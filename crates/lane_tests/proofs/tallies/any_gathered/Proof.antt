@@ -10,37 +10,37 @@ use borrow.Author.Rules.{rules}
 use Rattle.lane_tests.proofs.tallies.any_gathered.Statement.{statement}
 use Rattle.lane_tests.proofs.tallies.any_gathered.Tie as tie
 
-abbrev invariant-loop : tie.invariant-loop
+abbrev invariant-loop : tie.invariant-loop-i
 invariant-loop lane i₀ i = some_pass (on is_gathered) (drop i lane) ≡ some_pass (on is_gathered) lane
 
-abbrev decreases-loop : tie.decreases-loop
+abbrev decreases-loop : tie.decreases-loop-i
 decreases-loop lane i₀ i = most_lanes - i
 
-loop-holds : tie.Need-loop-init invariant-loop decreases-loop
+loop-holds : tie.Need-loop-i-init invariant-loop decreases-loop
 loop-holds c = refl
 
-returns : tie.Need-returns invariant-loop decreases-loop
+returns : tie.Need-returns-then-is_gathered invariant-loop decreases-loop
 returns c =
     let loop = c.before.before.before.before in
-    let lane = loop.before.args.t1 in
-    let room : loop.loop.i < length lane = search rules in
-    sym (any_here (on is_gathered) lane loop.loop.i idle_lane room (sym c.before.is-gathered.ensures ∙ c.if1.true)) ∙ loop.loop.invariant
+    let lane = loop.args.lane in
+    let room : loop.loop-i.i < length lane = search rules in
+    sym (any_here (on is_gathered) lane loop.loop-i.i idle_lane room (sym c.is_gathered.ensures ∙ c.if-is_gathered.true)) ∙ loop.loop-i.invariant
 
-loop-again : tie.Need-loop-preserved invariant-loop decreases-loop
+loop-again : tie.Need-loop-i-preserved invariant-loop decreases-loop
 loop-again c =
     let loop = c.before.before.before.before in
-    let lane = loop.before.args.t1 in
-    let room : loop.loop.i < length lane = search rules in
-    sym (any_more (on is_gathered) lane loop.loop.i idle_lane room (sym c.before.is-gathered.ensures ∙ c.if1.false)) ∙ loop.loop.invariant
+    let lane = loop.args.lane in
+    let room : loop.loop-i.i < length lane = search rules in
+    sym (any_more (on is_gathered) lane loop.loop-i.i idle_lane room (sym c.is_gathered.ensures ∙ c.if-is_gathered.false)) ∙ loop.loop-i.invariant
 
-returns-2 : tie.Need-returns-2 invariant-loop decreases-loop
+returns-2 : tie.Need-returns invariant-loop decreases-loop
 returns-2 c =
-    let lane = c.before.before.args.t1 in
-    let past : length lane ≤ c.before.loop.i = search rules in
-    sym (any_end (on is_gathered) lane c.before.loop.i idle_lane past) ∙ c.before.loop.invariant
+    let lane = c.args.lane in
+    let past : length lane ≤ c.loop-i.i = search rules in
+    sym (any_end (on is_gathered) lane c.loop-i.i idle_lane past) ∙ c.loop-i.invariant
 
-pub any-gathered-spec : {M : Type 1} → statement M
-any-gathered-spec =
+pub any_gathered_spec : {M : Type 1} → statement M
+any_gathered_spec =
     tie.close
     (tie.spec
     invariant-loop

@@ -12,7 +12,7 @@ use borrow.Author.Rules.{rules}
 use Rattle.lane_tests.proofs.tallies.counts_of.Statement.{statement}
 use Rattle.lane_tests.proofs.tallies.counts_of.Tie as tie
 
-abbrev invariant-loop : tie.invariant-loop
+abbrev invariant-loop : tie.invariant-loop-i
 invariant-loop lane active₀ gathered₀ total₀ i₀ active gathered total i =
     (active + count_pass (on not_idle) (drop i lane) ≡ count_pass (on not_idle) lane)
     × (gathered + count_pass (on is_gathered) (drop i lane) ≡ count_pass (on is_gathered) lane)
@@ -21,39 +21,39 @@ invariant-loop lane active₀ gathered₀ total₀ i₀ active gathered total i 
     × (gathered ≤ i)
     × (total ≤ 65535 * i)
 
-abbrev decreases-loop : tie.decreases-loop
+abbrev decreases-loop : tie.decreases-loop-i
 decreases-loop lane active₀ gathered₀ total₀ i₀ active gathered total i = most_lanes - i
 
-loop-again : tie.Need-loop-preserved invariant-loop decreases-loop
+loop-again : tie.Need-loop-i-preserved invariant-loop decreases-loop
 loop-again c =
     let loop = c.before.before.before.before.before.before.before in
-    let a = loop.before.args in
-    let i = loop.loop.i in
-    let room : i < length a.t1 = search rules in
-    let active = rw c.before.before.before.before.is-idle.ensures at c.before.before.before.one.ensures.0 in
-    let gathered = rw c.before.before.is-gathered.ensures at c.before.one2.ensures.0 in
+    let a = loop.args in
+    let i = loop.loop-i.i in
+    let room : i < length a.lane = search rules in
+    let active = rw c.is_idle.ensures at c.one.ensures.0 in
+    let gathered = rw c.is_gathered.ensures at c.one-in-loop-i.ensures.0 in
     omega (
       arith,
-      loop.loop.invariant,
+      loop.loop-i.invariant,
       active,
       gathered,
-      count_more (on not_idle) a.t1 i idle_lane room,
-      count_more (on is_gathered) a.t1 i idle_lane room,
-      sum_more (on count_in) a.t1 i idle_lane room,
+      count_more (on not_idle) a.lane i idle_lane room,
+      count_more (on is_gathered) a.lane i idle_lane room,
+      sum_more (on count_in) a.lane i idle_lane room,
     )
 
 returns : tie.Need-returns invariant-loop decreases-loop
 returns c =
-    let a = c.before.before.args in
-    let i = c.before.loop.i in
-    let past : length a.t1 ≤ i = search rules in
-    let active : c.before.loop.active ≡ count_pass (on not_idle) a.t1 = omega (arith, count_end (on not_idle) a.t1 i idle_lane past) in
-    let gathered : c.before.loop.gathered ≡ count_pass (on is_gathered) a.t1 = omega (arith, count_end (on is_gathered) a.t1 i idle_lane past) in
-    let total : c.before.loop.total ≡ sum_of (on count_in) a.t1 = omega (arith, sum_end (on count_in) a.t1 i idle_lane past) in
+    let a = c.args in
+    let i = c.loop-i.i in
+    let past : length a.lane ≤ i = search rules in
+    let active : c.loop-i.active ≡ count_pass (on not_idle) a.lane = omega (arith, count_end (on not_idle) a.lane i idle_lane past) in
+    let gathered : c.loop-i.gathered ≡ count_pass (on is_gathered) a.lane = omega (arith, count_end (on is_gathered) a.lane i idle_lane past) in
+    let total : c.loop-i.total ≡ sum_of (on count_in) a.lane = omega (arith, sum_end (on count_in) a.lane i idle_lane past) in
     rw (active, gathered, total)
 
-pub counts-of-spec : {M : Type 1} → statement M
-counts-of-spec =
+pub counts_of_spec : {M : Type 1} → statement M
+counts_of_spec =
     tie.close
     (tie.spec
     invariant-loop

@@ -12,7 +12,7 @@ use borrow.Author.Rules.{rules}
 use Rattle.lane_tests.proofs.tallies.tally_of.Statement.{statement}
 use Rattle.lane_tests.proofs.tallies.tally_of.Tie as tie
 
-abbrev invariant-loop : tie.invariant-loop
+abbrev invariant-loop : tie.invariant-loop-i
 invariant-loop lane flagged₀ turns₀ gathered₀ total₀ i₀ flagged turns gathered total i =
     (flagged + count_pass (on flag_is_one) (drop i lane) ≡ count_pass (on flag_is_one) lane)
     × (turns + count_pass (on has_turn) (drop i lane) ≡ count_pass (on has_turn) lane)
@@ -23,43 +23,43 @@ invariant-loop lane flagged₀ turns₀ gathered₀ total₀ i₀ flagged turns 
     × (gathered ≤ i)
     × (total ≤ 65535 * i)
 
-abbrev decreases-loop : tie.decreases-loop
+abbrev decreases-loop : tie.decreases-loop-i
 decreases-loop lane flagged₀ turns₀ gathered₀ total₀ i₀ flagged turns gathered total i = most_lanes - i
 
-loop-again : tie.Need-loop-preserved invariant-loop decreases-loop
+loop-again : tie.Need-loop-i-preserved invariant-loop decreases-loop
 loop-again c =
     let loop = c.before.before.before.before.before.before.before.before.before in
-    let a = loop.before.args in
-    let i = loop.loop.i in
-    let room : i < length a.t1 = search rules in
-    let flagged = rw c.before.before.before.before.before.before.flag_for.ensures at c.before.before.before.before.before.one.ensures.0 in
-    let turns = rw c.before.before.before.before.has-turn.ensures at c.before.before.before.one2.ensures.0 in
-    let gathered = rw c.before.before.is-gathered.ensures at c.before.one3.ensures.0 in
+    let a = loop.args in
+    let i = loop.loop-i.i in
+    let room : i < length a.lane = search rules in
+    let flagged = rw c.flag_for.ensures at c.one-flagged.ensures.0 in
+    let turns = rw c.has_turn.ensures at c.one-turns.ensures.0 in
+    let gathered = rw c.is_gathered.ensures at c.one-gathered.ensures.0 in
     omega (
       arith,
-      loop.loop.invariant,
+      loop.loop-i.invariant,
       flagged,
       turns,
       gathered,
-      count_more (on flag_is_one) a.t1 i idle_lane room,
-      count_more (on has_turn) a.t1 i idle_lane room,
-      count_more (on is_gathered) a.t1 i idle_lane room,
-      sum_more (on count_in) a.t1 i idle_lane room,
+      count_more (on flag_is_one) a.lane i idle_lane room,
+      count_more (on has_turn) a.lane i idle_lane room,
+      count_more (on is_gathered) a.lane i idle_lane room,
+      sum_more (on count_in) a.lane i idle_lane room,
     )
 
 returns : tie.Need-returns invariant-loop decreases-loop
 returns c =
-    let a = c.before.before.args in
-    let i = c.before.loop.i in
-    let past : length a.t1 ≤ i = search rules in
-    let flagged : c.before.loop.flagged ≡ count_pass (on flag_is_one) a.t1 = omega (arith, count_end (on flag_is_one) a.t1 i idle_lane past) in
-    let turns : c.before.loop.turns ≡ count_pass (on has_turn) a.t1 = omega (arith, count_end (on has_turn) a.t1 i idle_lane past) in
-    let gathered : c.before.loop.gathered ≡ count_pass (on is_gathered) a.t1 = omega (arith, count_end (on is_gathered) a.t1 i idle_lane past) in
-    let total : c.before.loop.total ≡ sum_of (on count_in) a.t1 = omega (arith, sum_end (on count_in) a.t1 i idle_lane past) in
+    let a = c.args in
+    let i = c.loop-i.i in
+    let past : length a.lane ≤ i = search rules in
+    let flagged : c.loop-i.flagged ≡ count_pass (on flag_is_one) a.lane = omega (arith, count_end (on flag_is_one) a.lane i idle_lane past) in
+    let turns : c.loop-i.turns ≡ count_pass (on has_turn) a.lane = omega (arith, count_end (on has_turn) a.lane i idle_lane past) in
+    let gathered : c.loop-i.gathered ≡ count_pass (on is_gathered) a.lane = omega (arith, count_end (on is_gathered) a.lane i idle_lane past) in
+    let total : c.loop-i.total ≡ sum_of (on count_in) a.lane = omega (arith, sum_end (on count_in) a.lane i idle_lane past) in
     rw (flagged, turns, gathered, total)
 
-pub tally-of-spec : {M : Type 1} → statement M
-tally-of-spec =
+pub tally_of_spec : {M : Type 1} → statement M
+tally_of_spec =
     tie.close
     (tie.spec
     invariant-loop

@@ -9,30 +9,30 @@ use borrow.Author.Rules.{rules}
 use Rattle.record_calls.proofs.bytes.load_record.Statement.{statement}
 use Rattle.record_calls.proofs.bytes.load_record.Tie as tie
 
-abbrev invariant-loop : tie.invariant-loop
+abbrev invariant-loop : tie.invariant-loop-j
 invariant-loop book at content₀ j₀ content j = (content ≡ number_of (take j (drop at book))) × (content < 256 ^ j) × (j ≤ 8)
 
-abbrev decreases-loop : tie.decreases-loop
+abbrev decreases-loop : tie.decreases-loop-j
 decreases-loop book at content₀ j₀ content j = 8 - j
 
-loop-holds : tie.Need-loop-init invariant-loop decreases-loop
+loop-holds : tie.Need-loop-j-init invariant-loop decreases-loop
 unfolding number_of
 loop-holds c = (refl, omega arith, omega arith)
 
-mul-content : tie.Need-overflow-mul-content invariant-loop decreases-loop
-mul-content c = let lp = c.before.loop in omega (arith, below_seven lp.content lp.j lp.invariant.1 c.loop-test.true)
+mul-content : tie.Need-overflow_mul-content invariant-loop decreases-loop
+mul-content c = let lp = c.loop-j in omega (arith, below_seven lp.content lp.j lp.invariant.1 c.loop-j-test.true)
 
-add-content : tie.Need-overflow-add-content invariant-loop decreases-loop
+add-content : tie.Need-overflow_add-content invariant-loop decreases-loop
 add-content c =
-    let in-loop = c.before.before in
-    let lp = in-loop.before.loop in
-    omega (arith, below_seven lp.content lp.j lp.invariant.1 in-loop.loop-test.true)
+    let in-loop = c in
+    let lp = in-loop.loop-j in
+    omega (arith, below_seven lp.content lp.j lp.invariant.1 in-loop.loop-j-test.true)
 
-loop-again : tie.Need-loop-preserved invariant-loop decreases-loop
+loop-again : tie.Need-loop-j-preserved invariant-loop decreases-loop
 loop-again c =
-    let in-loop = c.before.before in
-    let lp = in-loop.before.loop in
-    let a = in-loop.before.before.before.args in (
+    let in-loop = c in
+    let lp = in-loop.loop-j in
+    let a = in-loop.args in (
       omega (arith, number_more a.book.now a.at lp.j (omega arith)),
       room_for_byte lp.content c.wide.result lp.j lp.invariant.1 c.wide.ensures.1,
       omega arith,
@@ -40,12 +40,12 @@ loop-again c =
 
 returns : tie.Need-returns invariant-loop decreases-loop
 returns c =
-    let lp = c.before.loop in
+    let lp = c.loop-j in
     let end : lp.j ≡ 8 = omega arith in
     rw end at lp.invariant.0
 
-pub load-record-spec : {M : Type 1} → statement M
-load-record-spec =
+pub load_record_spec : {M : Type 1} → statement M
+load_record_spec =
     tie.close
     (tie.spec
     invariant-loop

@@ -4,7 +4,7 @@ use Rattle.report.proofs.Report.empty.Statement.{statement}
 use Rattle.report.proofs.Report.empty.Tie as tie
 
 returns : tie.Need-returns
-returns c = rw c.empty.ensures
+returns c = rw c.empty-row.ensures
 
-pub empty-spec : {M : Type 1} → statement M
-empty-spec = tie.close (tie.spec (λ c κs. search rules) returns)
+pub empty_spec : {M : Type 1} → statement M
+empty_spec = tie.close (tie.spec (λ c κs. search rules) returns)

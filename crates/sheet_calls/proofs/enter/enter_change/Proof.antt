@@ -7,32 +7,27 @@ use borrow.Author.Rules.{rules}
 use Rattle.sheet_calls.proofs.enter.enter_change.Statement.{statement}
 use Rattle.sheet_calls.proofs.enter.enter_change.Tie as tie
 
-add-t10 : tie.Need-overflow-add-t10
+add-t10 : tie.Need-overflow_add-pointer
 add-t10 c =
-    let told = c.before in
-    let s = told.before.before.before in
-    omega (arith, s.requires (ap is_accepted told.enum-told2.given.1))
+    omega (arith, c.requires (ap is_accepted c.in-Complete.is))
 
-returns : tie.Need-returns
+returns : tie.Need-returns-in-Refused
 returns c =
-    let told = c.before.before in
-    let a = told.before.before.before.args in
-    c.refuse.ensures ∙ sym (ap (enter_change a.seen a.count a.total) told.entered.given.1)
+    let a = c.args in
+    c.refuse.ensures ∙ sym (ap (enter_change a.seen a.count a.total) c.in-Refused.is)
 
-returns-2 : tie.Need-returns-2
+returns-2 : tie.Need-returns-in-Gathered
 returns-2 c =
-    let told = c.before in
-    let a = told.before.before.before.args in
-    c.gather.ensures ∙ sym (ap (enter_change a.seen a.count a.total) told.enum_told.given.1)
+    let a = c.args in
+    c.gather.ensures ∙ sym (ap (enter_change a.seen a.count a.total) c.in-Gathered.is)
 
-returns-3 : tie.Need-returns-3
+returns-3 : tie.Need-returns-in-Complete
 returns-3 c =
-    let told = c.before.before in
-    let a = told.before.before.before.args in
-    c.gather2.ensures ∙ sym (ap (enter_change a.seen a.count a.total) told.enum-told2.given.1)
+    let a = c.args in
+    c.gather-in-Complete.ensures ∙ sym (ap (enter_change a.seen a.count a.total) c.in-Complete.is)
 
-pub enter-change-spec : {M : Type 1} → statement M
-enter-change-spec =
+pub enter_change_spec : {M : Type 1} → statement M
+enter_change_spec =
     tie.close
     (tie.spec
     (λ c. search rules)

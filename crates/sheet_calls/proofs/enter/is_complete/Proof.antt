@@ -16,11 +16,11 @@ not_complete (Entered.Refused k) t = refl
 not_complete Entered.Gathered t = refl
 not_complete Entered.Complete t = absurd (miss (0 ∷ 1 ∷ []) 2 tt t)
 
-returns-2 : tie.Need-returns-2
-returns-2 c = not_complete c.before.args.entered c.match.keys2
+returns-2 : tie.Need-returns-in_default
+returns-2 c = not_complete c.args.entered c.in_default.in_default-own.keys2
 
-pub is-complete-spec : {M : Type 1} → statement M
-is-complete-spec =
+pub is_complete_spec : {M : Type 1} → statement M
+is_complete_spec =
     tie.close
     (tie.spec
     (λ c. search rules)

@@ -15,37 +15,33 @@ use borrow.Author.Rules.{rules}
 use Rattle.sheet_calls.proofs.records.call_look.Statement.{statement}
 use Rattle.sheet_calls.proofs.records.call_look.Tie as tie
 
-returns : tie.Need-returns
+returns : tie.Need-returns-in_default
 returns c =
-    let told = c.before in
-    let read = told.before.before in
-    absurd (omega (arith, (missed (sym read.read_u32.ensures ∙ ap said32 told.enum_told.given.1)).ends, read.before.before.before.before.requires.1.0))
+    absurd (omega (arith, (missed (sym c.read_u32.ensures ∙ ap said32 c.in_default.is)).ends, c.requires.1.0))
 
-abbrev start_of : tie.After-look → tie.Start
-start_of p = p.before.before.before.before.before.before.before.before.before
+abbrev start_of : tie.After-look-change → tie.Start
+start_of p = p.before.before.before.before.before.before.before
 
-acts : (p : tie.After-look) → Acts (start_of p).args.seen p.look.result
-acts p = idle_refused (start_of p).args.seen p.look.ensures (λ z. rw z)
+acts : (p : tie.After-look-change) → Acts (start_of p).args.seen p.look-change.result
+acts p = idle_refused (start_of p).args.seen p.look-change.ensures (λ z. rw z)
 
-call-active-requires : tie.Need-call-active-requires
+call-active-requires : tie.Need-call_active-requires
 call-active-requires c κs =
     let p = c.before.before.before.before in
     acts_within (start_of p).requires.0.0 (acts p)
 
-returns-2 : tie.Need-returns-2
+returns-2 : tie.Need-returns
 unfolding table_decided book_decided
 returns-2 c =
     let put = c.before.before.before in
     let change = put.before.before in
-    let position = change.before in
-    let field = position.before.before in
-    λ (lane : ℕ) (flags : List ℕ). ran_with (LaneCall.Look (place field.place.given.0.0)) (field.place.given.0.0 ∷ []) c.call-active.ensures
+    λ (lane : ℕ) (flags : List ℕ). ran_with (LaneCall.Look (place change.in-Value.place)) (change.in-Value.place ∷ []) c.call_active.ensures
     (acts_counted (start_of change).requires.0.0 (acts change))
-    (sym field.before.before.read_u32.ensures ∙ ap said32 field.place.given.1) refl
-    (rw (← position.position.ensures.is) change.look.ensures) refl put.put-looked.ensures
+    (sym change.read_u32.ensures ∙ ap said32 change.in-Value.is) refl
+    (rw (← change.position-position.ensures.is) change.look-change.ensures) refl put.put_looked-end.ensures
 
-pub call-look-spec : {M : Type 1} → statement M
-call-look-spec =
+pub call_look_spec : {M : Type 1} → statement M
+call_look_spec =
     tie.close
     (tie.spec
     (λ c κs. search rules)

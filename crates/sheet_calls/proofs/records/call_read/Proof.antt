@@ -16,13 +16,13 @@ use borrow.Author.Rules.{rules}
 use Rattle.sheet_calls.proofs.records.call_read.Statement.{statement}
 use Rattle.sheet_calls.proofs.records.call_read.Tie as tie
 
-abbrev start_of : tie.After-read → tie.Start
+abbrev start_of : tie.After-read-change → tie.Start
 start_of p = p.before.before.before.before.before.before
 
-acts : (p : tie.After-read) → Acts (start_of p).args.seen p.read.result
-acts p = idle_refused (start_of p).args.seen p.read.ensures (λ z. rw z)
+acts : (p : tie.After-read-change) → Acts (start_of p).args.seen p.read-change.result
+acts p = idle_refused (start_of p).args.seen p.read-change.ensures (λ z. rw z)
 
-call-active-requires : tie.Need-call-active-requires
+call-active-requires : tie.Need-call_active-requires
 call-active-requires c κs =
     let p = c.before.before.before.before in
     acts_within (start_of p).requires.0.0 (acts p)
@@ -32,16 +32,14 @@ unfolding table_decided book_decided
 returns c =
     let put = c.before.before.before in
     let change = put.before.before in
-    let position = change.before in
-    let place = position.before.before in
     let a = (start_of change).args in
-    let there = position.position.ensures.is ∙ ap (table_position a.tiling a.records.now) place.IsPlace-in.ensures in
-    λ (lane : ℕ) (flags sheet : List ℕ) (inside : _ ≤ length sheet). ran_with LaneCall.Read [] c.call-active.ensures
+    let there = change.position-position.ensures.is ∙ ap (table_position a.tiling a.records.now) change.place_in-place.ensures in
+    λ (lane : ℕ) (flags sheet : List ℕ) (inside : _ ≤ length sheet). ran_with LaneCall.Read [] c.call_active.ensures
     (acts_counted (start_of change).requires.0.0 (acts change))
-    (nothing_there sheet _ inside) refl (change.read.ensures ∙ ap (λ (p : Position). read_by a.seen p a.book.now a.seen.phase) there) refl put.put-read.ensures
+    (nothing_there sheet _ inside) refl (change.read-change.ensures ∙ ap (λ (p : Position). read_by a.seen p a.book.now a.seen.phase) there) refl put.put_read-end.ensures
 
-pub call-read-spec : {M : Type 1} → statement M
-call-read-spec =
+pub call_read_spec : {M : Type 1} → statement M
+call_read_spec =
     tie.close
     (tie.spec
     (λ c κs. search rules)

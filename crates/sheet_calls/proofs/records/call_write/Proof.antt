@@ -20,57 +20,54 @@ use borrow.Author.Rules.{rules}
 use Rattle.sheet_calls.proofs.records.call_write.Statement.{statement}
 use Rattle.sheet_calls.proofs.records.call_write.Tie as tie
 
-returns : tie.Need-returns
+returns : tie.Need-returns-in_default
 returns c =
-    let told = c.before in
-    let read = told.before.before in
-    absurd (omega (arith, (missed (sym read.read_u64.ensures ∙ ap said64 told.enum_told.given.1)).ends, read.before.before.before.before.requires.1.1.0))
+    absurd (omega (arith, (missed (sym c.read_u64.ensures ∙ ap said64 c.in_default.is)).ends, c.requires.1.1.0))
 
-abbrev start_of : tie.After-position → tie.Start
-start_of p = p.before.before.before.before.before.before.before.before.before.before
+abbrev start_of : tie.After-position-position → tie.Start
+start_of p = p.before.before.before.before.before.before.before.before
 
-there : (p : tie.After-position) → p.position.result ≡ table_position (start_of p).args.tiling (start_of p).args.records.now (place_in (start_of p).args.seen.phase)
-there p = p.position.ensures.is ∙ ap (table_position (start_of p).args.tiling (start_of p).args.records.now) p.before.before.IsPlace-in.ensures
+there : (p : tie.After-position-position) → p.position-position.result ≡ table_position (start_of p).args.tiling (start_of p).args.records.now (place_in (start_of p).args.seen.phase)
+there p = p.position-position.ensures.is ∙ ap (table_position (start_of p).args.tiling (start_of p).args.records.now) p.place_in-place.ensures
 
-fits_there : (p : tie.After-position) → writable (start_of p).args.seen p.position.result ≡ true
+fits_there : (p : tie.After-position-position) → writable (start_of p).args.seen p.position-position.result ≡ true
 fits_there p = ap (writable (start_of p).args.seen) (there p) ∙ (start_of p).requires.1.0
 
-write-requires : tie.Need-write-requires
+write-requires : tie.Need-write-change-requires
 write-requires c κs = ((start_of c).requires.0.2, fits_there c)
 
 store-requires : tie.Need-store-requires
 store-requires c κs =
     let p = c.before.before in
     let s = start_of p in
-    rw c.before.write.ensures (written_storable s.args.seen p.position.result _ s.pre.0.3 (fits_there p))
+    rw c.write-change.ensures (written_storable s.args.seen p.position-position.result _ s.requires.0.3 (fits_there p))
 
-put-written-requires : tie.Need-put-written-requires
+put-written-requires : tie.Need-put_written-end-requires
 put-written-requires c κs = (start_of c.before.before.before.before.before.before).requires.1.1.1
 
-acts : (p : tie.After-write) → Acts (start_of p.before).args.seen p.write.result
-acts p = idle_refused (start_of p.before).args.seen p.write.ensures (λ z. rw z)
+acts : (p : tie.After-write-change) → Acts (start_of p.before).args.seen p.write-change.result
+acts p = idle_refused (start_of p.before).args.seen p.write-change.ensures (λ z. rw z)
 
-call-active-requires : tie.Need-call-active-requires
+call-active-requires : tie.Need-call_active-requires
 call-active-requires c κs =
     let p = c.before.before.before.before.before.before.before.before in
     acts_within (start_of p.before).requires.0.0 (acts p)
 
-returns-2 : tie.Need-returns-2
+returns-2 : tie.Need-returns
 unfolding table_decided book_decided
 returns-2 c =
     let put = c.before.before.before in
     let stored = put.before.before.before.before in
     let change = stored.before.before in
     let p = change.before in
-    let field = p.before.before.before.before in
     let s = (start_of p).args.seen in
-    λ (lane : ℕ) (flags : List ℕ). ran_with (LaneCall.Write field.content.given.0.0) (field.content.given.0.0 ∷ []) c.call-active.ensures
+    λ (lane : ℕ) (flags : List ℕ). ran_with (LaneCall.Write p.in-Value.content) (p.in-Value.content ∷ []) c.call_active.ensures
     (acts_counted (start_of p).requires.0.0 (acts change))
-    (sym field.before.before.read_u64.ensures ∙ ap said64 field.content.given.1) refl
-    (change.write.ensures ∙ ap (λ (q : Position). written_by s q s.phase) (there p)) stored.store.ensures put.Put-written.ensures
+    (sym p.read_u64.ensures ∙ ap said64 p.in-Value.is) refl
+    (change.write-change.ensures ∙ ap (λ (q : Position). written_by s q s.phase) (there p)) stored.store.ensures put.put_written-end.ensures
 
-pub call-write-spec : {M : Type 1} → statement M
-call-write-spec =
+pub call_write_spec : {M : Type 1} → statement M
+call_write_spec =
     tie.close
     (tie.spec
     (λ c κs. search rules)

@@ -14,13 +14,13 @@ use borrow.Author.Rules.{rules}
 use Rattle.sheet_calls.proofs.turns.call_free.Statement.{statement}
 use Rattle.sheet_calls.proofs.turns.call_free.Tie as tie
 
-abbrev start_of : tie.After-free → tie.Start
+abbrev start_of : tie.After-free-change → tie.Start
 start_of p = p.before.before
 
-acts : (p : tie.After-free) → Acts (start_of p).args.seen p.free.result
-acts p = idle_refused (start_of p).args.seen p.free.ensures (λ z. rw z)
+acts : (p : tie.After-free-change) → Acts (start_of p).args.seen p.free-change.result
+acts p = idle_refused (start_of p).args.seen p.free-change.ensures (λ z. rw z)
 
-call-active-requires : tie.Need-call-active-requires
+call-active-requires : tie.Need-call_active-requires
 call-active-requires c κs =
     let p = c.before.before.before.before in
     acts_within (start_of p).requires.0 (acts p)
@@ -30,12 +30,12 @@ unfolding table_decided book_decided
 returns c =
     let put = c.before.before.before in
     let change = put.before.before in
-    λ (t : Tiling) (records book sheet : List ℕ) (inside : _ ≤ length sheet). ran_with LaneCall.Free [] c.call-active.ensures
+    λ (t : Tiling) (records book sheet : List ℕ) (inside : _ ≤ length sheet). ran_with LaneCall.Free [] c.call_active.ensures
     (acts_counted (start_of change).requires.0 (acts change))
-    (nothing_there sheet _ inside) refl change.free.ensures refl put.put-freed-line.ensures
+    (nothing_there sheet _ inside) refl change.free-change.ensures refl put.put_freed_line-end.ensures
 
-pub call-free-spec : {M : Type 1} → statement M
-call-free-spec =
+pub call_free_spec : {M : Type 1} → statement M
+call_free_spec =
     tie.close
     (tie.spec
     (λ c κs. search rules)

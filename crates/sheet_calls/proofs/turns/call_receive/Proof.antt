@@ -14,13 +14,13 @@ use borrow.Author.Rules.{rules}
 use Rattle.sheet_calls.proofs.turns.call_receive.Statement.{statement}
 use Rattle.sheet_calls.proofs.turns.call_receive.Tie as tie
 
-abbrev start_of : tie.After-receive → tie.Start
+abbrev start_of : tie.After-receive-change → tie.Start
 start_of p = p.before.before
 
-acts : (p : tie.After-receive) → Acts (start_of p).args.seen p.receive.result
-acts p = idle_refused (start_of p).args.seen p.receive.ensures (λ z. rw z)
+acts : (p : tie.After-receive-change) → Acts (start_of p).args.seen p.receive-change.result
+acts p = idle_refused (start_of p).args.seen p.receive-change.ensures (λ z. rw z)
 
-call-active-requires : tie.Need-call-active-requires
+call-active-requires : tie.Need-call_active-requires
 call-active-requires c κs =
     let p = c.before.before.before.before in
     acts_within (start_of p).requires.0 (acts p)
@@ -30,12 +30,12 @@ unfolding table_decided book_decided
 returns c =
     let put = c.before.before.before in
     let change = put.before.before in
-    λ (lane : ℕ) (t : Tiling) (records flags book sheet : List ℕ) (inside : _ ≤ length sheet). ran_with LaneCall.Receive [] c.call-active.ensures
+    λ (lane : ℕ) (t : Tiling) (records flags book sheet : List ℕ) (inside : _ ≤ length sheet). ran_with LaneCall.Receive [] c.call_active.ensures
     (acts_counted (start_of change).requires.0 (acts change))
-    (nothing_there sheet _ inside) refl change.receive.ensures refl put.put-received.ensures
+    (nothing_there sheet _ inside) refl change.receive-change.ensures refl put.put_received-end.ensures
 
-pub call-receive-spec : {M : Type 1} → statement M
-call-receive-spec =
+pub call_receive_spec : {M : Type 1} → statement M
+call_receive_spec =
     tie.close
     (tie.spec
     (λ c κs. search rules)

@@ -18,40 +18,35 @@ use borrow.Author.Rules.{rules}
 use Rattle.sheet_calls.proofs.turns.call_take.Statement.{statement}
 use Rattle.sheet_calls.proofs.turns.call_take.Tie as tie
 
-returns : tie.Need-returns
+returns : tie.Need-returns-in_default
 returns c =
-    let told = c.before in
-    let read = told.before.before in
-    absurd (omega (arith, (missed (sym read.read-u16.ensures ∙ ap said16 told.enum_told.given.1)).ends, read.before.before.before.requires.1.0))
+    absurd (omega (arith, (missed (sym c.read_u16.ensures ∙ ap said16 c.in_default.is)).ends, c.requires.1.0))
 
-abbrev start_of : tie.After-take → tie.Start
-start_of p = p.before.before.before.before.before.before.before.before.before
+abbrev start_of : tie.After-take-change → tie.Start
+start_of p = p.before.before.before.before.before.before.before
 
-acts : (p : tie.After-take) → Acts (start_of p).args.seen p.take.result
-acts p = idle_refused (start_of p).args.seen p.take.ensures (λ z. rw z)
+acts : (p : tie.After-take-change) → Acts (start_of p).args.seen p.take-change.result
+acts p = idle_refused (start_of p).args.seen p.take-change.ensures (λ z. rw z)
 
-call-active-requires : tie.Need-call-active-requires
+call-active-requires : tie.Need-call_active-requires
 call-active-requires c κs =
     let p = c.before.before.before.before in
     acts_within (start_of p).requires.0.0 (acts p)
 
-returns-2 : tie.Need-returns-2
+returns-2 : tie.Need-returns
 unfolding table_decided book_decided
 returns-2 c =
     let put = c.before.before.before in
     let change = put.before.before in
-    let fit = change.before in
-    let place = fit.before in
-    let field = place.before.before in
     let a = (start_of change).args in
-    let fits = fit.fits2.ensures ∙ ap (λ (k : Place). table_fits a.tiling a.records.now a.seen.capacity k field.count.given.0.0) place.IsPlace-in.ensures in
-    λ (book : List ℕ). ran_with (LaneCall.Take field.count.given.0.0) (field.count.given.0.0 ∷ []) c.call-active.ensures
+    let fits = change.fits-fitting.ensures ∙ ap (λ (k : Place). table_fits a.tiling a.records.now a.seen.capacity k change.in-Value.count) change.place_in-place.ensures in
+    λ (book : List ℕ). ran_with (LaneCall.Take change.in-Value.count) (change.in-Value.count ∷ []) c.call_active.ensures
     (acts_counted (start_of change).requires.0.0 (acts change))
-    (sym field.before.before.read-u16.ensures ∙ ap said16 field.count.given.1) refl
-    (change.take.ensures ∙ ap (λ (b : Bool). taken_from a.seen b a.flags.now a.lane field.count.given.0.0 a.seen.phase) fits) refl put.put-taken.ensures
+    (sym change.read_u16.ensures ∙ ap said16 change.in-Value.is) refl
+    (change.take-change.ensures ∙ ap (λ (b : Bool). taken_from a.seen b a.flags.now a.lane change.in-Value.count a.seen.phase) fits) refl put.put_taken-end.ensures
 
-pub call-take-spec : {M : Type 1} → statement M
-call-take-spec =
+pub call_take_spec : {M : Type 1} → statement M
+call_take_spec =
     tie.close
     (tie.spec
     (λ c κs. search rules)

@@ -15,33 +15,30 @@ use borrow.Author.Rules.{rules}
 use Rattle.sheet_calls.proofs.turns.call_want.Statement.{statement}
 use Rattle.sheet_calls.proofs.turns.call_want.Tie as tie
 
-returns : tie.Need-returns
+returns : tie.Need-returns-in_default
 returns c =
-    let told = c.before in
-    let read = told.before.before in
-    absurd (omega (arith, (missed (sym read.read-u8.ensures ∙ ap said8 told.enum_told.given.1)).ends, read.before.before.before.requires.1))
+    absurd (omega (arith, (missed (sym c.read_u8.ensures ∙ ap said8 c.in_default.is)).ends, c.requires.1))
 
-abbrev start_of : tie.After-want → tie.Start
-start_of p = p.before.before.before.before.before.before.before
+abbrev start_of : tie.After-want-change → tie.Start
+start_of p = p.before.before.before.before.before
 
-begins : (p : tie.After-want) → Begins (start_of p).args.seen p.want.result
-begins p = want_begins (start_of p).args.seen (start_of p).args.flags.now (start_of p).args.lane p.before.before.purpose.given.0.0 p.want.ensures
+begins : (p : tie.After-want-change) → Begins (start_of p).args.seen p.want-change.result
+begins p = want_begins (start_of p).args.seen (start_of p).args.flags.now (start_of p).args.lane p.in-Value.purpose p.want-change.ensures
 
-add-with-active : tie.Need-overflow-add-with-active
+add-with-active : tie.Need-overflow_add-counts
 add-with-active c = omega (arith, (start_of c.before.before.before.before.before).requires.0.few)
 
-returns-2 : tie.Need-returns-2
+returns-2 : tie.Need-returns
 unfolding table_decided book_decided
 returns-2 c =
     let put = c.before.before.before.before.before in
     let change = put.before.before in
-    let field = change.before.before in
-    λ (t : Tiling) (records book : List ℕ). ran_with (LaneCall.Want field.purpose.given.0.0) (field.purpose.given.0.0 ∷ []) c.call-with.ensures
-    (λ accepted. c.before.with-active.ensures ∙ begins_counted (start_of change).requires.0 (begins change) accepted)
-    (sym field.before.before.read-u8.ensures ∙ ap said8 field.purpose.given.1) refl change.want.ensures refl put.put_wanted.ensures
+    λ (t : Tiling) (records book : List ℕ). ran_with (LaneCall.Want change.in-Value.purpose) (change.in-Value.purpose ∷ []) c.call_with.ensures
+    (λ accepted. c.with_active.ensures ∙ begins_counted (start_of change).requires.0 (begins change) accepted)
+    (sym change.read_u8.ensures ∙ ap said8 change.in-Value.is) refl change.want-change.ensures refl put.put_wanted-end.ensures
 
-pub call-want-spec : {M : Type 1} → statement M
-call-want-spec =
+pub call_want_spec : {M : Type 1} → statement M
+call_want_spec =
     tie.close
     (tie.spec
     (λ c κs. search rules)

@@ -5,25 +5,25 @@ use borrow.Author.Tests.{eq-eqb, ne_eqb}
 use Rattle.state_bytes.proofs.entries.are_same.Statement.{statement}
 use Rattle.state_bytes.proofs.entries.are_same.Tie as tie
 
-returns : tie.Need-returns
-returns c = rw (ne_eqb _ _ c.if1.true)
+returns : tie.Need-returns-then-a-b
+returns c = rw (ne_eqb _ _ c.if-a-b.true)
 
-returns-2 : tie.Need-returns-2
-returns-2 c = rw (eq-eqb _ _ c.before.before.before.if1.false, ne_eqb _ _ c.if2.true)
+returns-2 : tie.Need-returns-then-a-b-2
+returns-2 c = rw (eq-eqb _ _ c.if-a-b.false, ne_eqb _ _ c.if-a-b-2.true)
 
-returns-3 : tie.Need-returns-3
+returns-3 : tie.Need-returns-then-a-b-3
 returns-3 c =
     let second = c.before.before.before in
-    rw (eq-eqb _ _ second.before.before.before.if1.false, eq-eqb _ _ second.if2.false, ne_eqb _ _ c.if3.true)
+    rw (eq-eqb _ _ second.if-a-b.false, eq-eqb _ _ second.if-a-b-2.false, ne_eqb _ _ c.if-a-b-3.true)
 
-returns-4 : tie.Need-returns-4
+returns-4 : tie.Need-returns
 returns-4 c =
     let third = c.before.before in
     let second = third.before.before.before in
-    rw (eq-eqb _ _ second.before.before.before.if1.false, eq-eqb _ _ second.if2.false, eq-eqb _ _ third.if3.false) (sym (and-true _))
+    rw (eq-eqb _ _ second.if-a-b.false, eq-eqb _ _ second.if-a-b-2.false, eq-eqb _ _ third.if-a-b-3.false) (sym (and-true _))
 
-pub are-same-spec : {M : Type 1} → statement M
-are-same-spec =
+pub are_same_spec : {M : Type 1} → statement M
+are_same_spec =
     tie.close
     (tie.spec
     returns

@@ -7,10 +7,10 @@ use Rattle.state_bytes.proofs.entries.entry_at.Tie as tie
 returns : tie.Need-returns
 returns c =
     let s = c.before.before.before.before.before in
-    rw (c.number32.ensures.0, c.before.number16.ensures.0) (entry_fields s.args.bytes.now s.args.at s.requires)
+    rw (c.number32.ensures.0, c.number16.ensures.0) (entry_fields s.args.bytes.now s.args.at s.requires)
 
-pub entry-at-spec : {M : Type 1} → statement M
-entry-at-spec =
+pub entry_at_spec : {M : Type 1} → statement M
+entry_at_spec =
     tie.close
     (tie.spec
     (λ c. search rules)

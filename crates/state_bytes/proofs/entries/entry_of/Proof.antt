@@ -4,29 +4,29 @@ use borrow.Author.Rules.{rules}
 use Rattle.state_bytes.proofs.entries.entry_of.Statement.{statement}
 use Rattle.state_bytes.proofs.entries.entry_of.Tie as tie
 
-returns : tie.Need-returns
-returns c = rw c.before.enum_told.given.1 c.entry-with.ensures
+returns : tie.Need-returns-in-Idle
+returns c = rw c.in-Idle.is c.entry_with.ensures
 
-returns-2 : tie.Need-returns-2
-returns-2 c = rw (c.before.before.before.x.given.1, ← c.before.purpose-number.ensures) c.entry-with2.ensures
+returns-2 : tie.Need-returns-in-Waiting
+returns-2 c = rw (c.in-Waiting.is, ← c.purpose_number.ensures) c.entry_with-in-Waiting.ensures
 
-returns-3 : tie.Need-returns-3
-returns-3 c = rw (c.before.before.before.x2.given.1, ← c.before.purpose-number2.ensures) c.entry-with3.ensures
+returns-3 : tie.Need-returns-in-Woken
+returns-3 c = rw (c.in-Woken.is, ← c.purpose_number-in-Woken.ensures) c.entry_with-in-Woken.ensures
 
-returns-4 : tie.Need-returns-4
-returns-4 c = rw (c.before.before.before.x3.given.1, ← c.before.purpose-number3.ensures) c.entry-with4.ensures
+returns-4 : tie.Need-returns-in-Holding
+returns-4 c = rw (c.in-Holding.is, ← c.purpose_number-in-Holding.ensures) c.entry_with-in-Holding.ensures
 
-returns-5 : tie.Need-returns-5
-returns-5 c = rw (c.before.before.x4.given.1, add-zero) c.entry-with5.ensures
+returns-5 : tie.Need-returns-in-BusyWriting
+returns-5 c = rw (c.in-BusyWriting.is, add-zero) c.entry_with-in-BusyWriting.ensures
 
-returns-6 : tie.Need-returns-6
-returns-6 c = rw (c.before.before.x5.given.1, add-zero) c.entry-with6.ensures
+returns-6 : tie.Need-returns-in-BusyReading
+returns-6 c = rw (c.in-BusyReading.is, add-zero) c.entry_with-in-BusyReading.ensures
 
-returns-7 : tie.Need-returns-7
-returns-7 c = rw (c.before.before.x6.given.1, zero-add) c.entry-with7.ensures
+returns-7 : tie.Need-returns-in-Gathered
+returns-7 c = rw (c.in-Gathered.is, zero-add) c.entry_with-in-Gathered.ensures
 
-pub entry-of-spec : {M : Type 1} → statement M
-entry-of-spec =
+pub entry_of_spec : {M : Type 1} → statement M
+entry_of_spec =
     tie.close
     (tie.spec
     (λ c. search rules)

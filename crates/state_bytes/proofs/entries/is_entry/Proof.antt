@@ -12,12 +12,12 @@ returns : tie.Need-returns
 returns c =
     let own = c.before in
     let named = own.before in
-    let e = named.before.args.e in
-    c.are-same.ensures
-    ∙ ap (same_numbers (numbers_in e)) (own.entry-of.ensures ∙ ap (λ (x : Phase). entry_numbers x) named.phase-in.ensures)
+    let e = named.args.e in
+    c.are_same.ensures
+    ∙ ap (same_numbers (numbers_in e)) (own.entry_of.ensures ∙ ap (λ (x : Phase). entry_numbers x) named.phase_in.ensures)
 
-pub is-entry-spec : {M : Type 1} → statement M
-is-entry-spec =
+pub is_entry_spec : {M : Type 1} → statement M
+is_entry_spec =
     tie.close
     (tie.spec
     (λ c κs. search rules)

@@ -13,37 +13,37 @@ use Rattle.state_bytes.proofs.Walk.{entries_from, entries_end, lane_more}
 use Rattle.state_bytes.proofs.entries.lanes_in.Statement.{statement}
 use Rattle.state_bytes.proofs.entries.lanes_in.Tie as tie
 
-abbrev invariant-loop : tie.invariant-loop
+abbrev invariant-loop : tie.invariant-loop-i
 invariant-loop bytes lane₀ i₀ lane i =
     (take i lane ++ map lane_of (entries_from bytes 64 128 i) ≡ lanes_in bytes) × (length lane ≡ 128) × (i ≤ 128)
 
-abbrev decreases-loop : tie.decreases-loop
+abbrev decreases-loop : tie.decreases-loop-i
 decreases-loop bytes lane₀ i₀ lane i = 128 - i
 
-loop-holds : tie.Need-loop-init invariant-loop decreases-loop
-loop-holds c = (refl, length-replicate 128 c.idle.result, omega arith)
+loop-holds : tie.Need-loop-i-init invariant-loop decreases-loop
+loop-holds c = (refl, length-replicate 128 c.idle-idle.result, omega arith)
 
-loop-again : tie.Need-loop-preserved invariant-loop decreases-loop
+loop-again : tie.Need-loop-i-preserved invariant-loop decreases-loop
 loop-again c =
     let read = c.before in
     let turn = read.before.before in
-    let bytes = turn.before.before.before.args.bytes.now in
-    let i = turn.loop.i in
-    let inv = turn.loop.invariant in
-    let phase = c.phase-in.ensures ∙ ap (λ (numbers : List ℕ). phase_of numbers) read.entry_at.ensures in
-    (lane_more bytes 64 128 i turn.loop.lane _ (omega arith) (omega arith) (ap (λ (x : Phase). lane x) phase) ∙ inv.0, simp length-set inv.1, omega arith)
+    let bytes = turn.args.bytes.now in
+    let i = turn.loop-i.i in
+    let inv = turn.loop-i.invariant in
+    let phase = c.phase_in.ensures ∙ ap (λ (numbers : List ℕ). phase_of numbers) read.entry_at-e.ensures in
+    (lane_more bytes 64 128 i turn.loop-i.lane _ (omega arith) (omega arith) (ap (λ (x : Phase). lane x) phase) ∙ inv.0, simp length-set inv.1, omega arith)
 
 returns : tie.Need-returns invariant-loop decreases-loop
 returns c =
     let turn = c.before in
-    let bytes = turn.before.before.before.args.bytes.now in
-    let end : turn.loop.i ≡ 128 = omega arith in
-    let whole : length turn.loop.lane ≤ 128 = omega arith in
-    let none = entries_end bytes 64 128 turn.loop.i c.loop-test.false in
-    sym (append-nil turn.loop.lane) ∙ rw (none, end, take_all 128 turn.loop.lane whole) at turn.loop.invariant.0
+    let bytes = turn.args.bytes.now in
+    let end : turn.loop-i.i ≡ 128 = omega arith in
+    let whole : length turn.loop-i.lane ≤ 128 = omega arith in
+    let none = entries_end bytes 64 128 turn.loop-i.i c.loop-i-test.false in
+    sym (append-nil turn.loop-i.lane) ∙ rw (none, end, take_all 128 turn.loop-i.lane whole) at turn.loop-i.invariant.0
 
-pub lanes-in-spec : {M : Type 1} → statement M
-lanes-in-spec =
+pub lanes_in_spec : {M : Type 1} → statement M
+lanes_in_spec =
     tie.close
     (tie.spec
     invariant-loop

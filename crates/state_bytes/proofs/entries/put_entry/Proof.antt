@@ -17,11 +17,11 @@ returns c =
     let call1 = call2.before.before.before.before in
     let entry = call1.before.before in
     let s = entry.before.before in
-    (and_then (and_then (and_then (put call1.put-u8.ensures) (put call2.put-u82.ensures) refl refl) (put call3.put-u16.ensures) refl refl) (put call4.put-u32.ensures) refl refl).left
-    ∙ ap (λ (numbers : List ℕ). put_fields entry_lengths numbers s.args.bytes.now s.args.at) entry.entry-of.ensures
+    (and_then (and_then (and_then (put call1.put_u8.ensures) (put call2.put_u8-2.ensures) refl refl) (put call3.put_u16.ensures) refl refl) (put call4.put_u32.ensures) refl refl).left
+    ∙ ap (λ (numbers : List ℕ). put_fields entry_lengths numbers s.args.bytes.now s.args.at) entry.entry_of-e.ensures
 
-pub put-entry-spec : {M : Type 1} → statement M
-put-entry-spec =
+pub put_entry_spec : {M : Type 1} → statement M
+put_entry_spec =
     tie.close
     (tie.spec
     (λ c κs. search rules)

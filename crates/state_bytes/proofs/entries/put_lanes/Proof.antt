@@ -13,42 +13,42 @@ use Rattle.state_bytes.proofs.Walk.{stored_end, stored_more}
 use Rattle.state_bytes.proofs.entries.put_lanes.Statement.{statement}
 use Rattle.state_bytes.proofs.entries.put_lanes.Tie as tie
 
-abbrev invariant-loop : tie.invariant-loop
+abbrev invariant-loop : tie.invariant-loop-i
 invariant-loop bytes₀ lane i₀ bytes i = (sets bytes (64 + 8 * i) (entries_of (drop i lane)) ≡ sets bytes₀ 64 (entries_of lane)) × (length bytes ≡ length bytes₀)
 
-abbrev decreases-loop : tie.decreases-loop
+abbrev decreases-loop : tie.decreases-loop-i
 decreases-loop bytes₀ lane i₀ bytes i = 128 - i
 
-loop-holds : tie.Need-loop-init invariant-loop decreases-loop
+loop-holds : tie.Need-loop-i-init invariant-loop decreases-loop
 loop-holds c = (refl, refl)
 
-put-entry-requires : tie.Need-put-entry-requires invariant-loop decreases-loop
+put-entry-requires : tie.Need-put_entry-requires invariant-loop decreases-loop
 put-entry-requires c κs = search rules
 
-loop-again : tie.Need-loop-preserved invariant-loop decreases-loop
+loop-again : tie.Need-loop-i-preserved invariant-loop decreases-loop
 unfolding put_fields
 loop-again c =
     let call = c.before.before in
     let turn = call.before.before.before.before in
     let s = turn.before.before in
-    let lanes = s.args.t2 in
-    let long : length lanes ≡ 128 = let g = s.well-formed in search (length_unmapped, g) in
-    let here : turn.loop.i < length lanes = omega arith in
-    (ap (λ (l : List ℕ). sets l (64 + 8 * (turn.loop.i + 1)) (entries_of (drop (turn.loop.i + 1) lanes))) call.put-entry.ensures ∙ (stored_more turn.loop.bytes lanes 64 turn.loop.i here) ∙ turn.loop.invariant.0, search rules)
+    let lanes = s.args.lane in
+    let long : length lanes ≡ 128 = let g = s.well_formed in search (length_unmapped, g) in
+    let here : turn.loop-i.i < length lanes = omega arith in
+    (ap (λ (l : List ℕ). sets l (64 + 8 * (turn.loop-i.i + 1)) (entries_of (drop (turn.loop-i.i + 1) lanes))) call.put_entry.ensures ∙ (stored_more turn.loop-i.bytes lanes 64 turn.loop-i.i here) ∙ turn.loop-i.invariant.0, search rules)
 
-same_length : tie.Need-same-length invariant-loop decreases-loop
-same_length c = c.before.loop.invariant.1
+same_length : tie.Need-shape_of-bytes invariant-loop decreases-loop
+same_length c = c.loop-i.invariant.1
 
 returns : tie.Need-returns invariant-loop decreases-loop
 returns c =
     let s = c.before.before.before in
-    let lanes = s.args.t2 in
-    let long : length lanes ≡ 128 = let g = s.well-formed in search (length_unmapped, g) in
-    let end : length lanes ≤ c.before.loop.i = omega arith in
-    sym (stored_end c.before.loop.bytes lanes (64 + 8 * c.before.loop.i) c.before.loop.i end) ∙ c.before.loop.invariant.0
+    let lanes = s.args.lane in
+    let long : length lanes ≡ 128 = let g = s.well_formed in search (length_unmapped, g) in
+    let end : length lanes ≤ c.loop-i.i = omega arith in
+    sym (stored_end c.loop-i.bytes lanes (64 + 8 * c.loop-i.i) c.loop-i.i end) ∙ c.loop-i.invariant.0
 
-pub put-lanes-spec : {M : Type 1} → statement M
-put-lanes-spec =
+pub put_lanes_spec : {M : Type 1} → statement M
+put_lanes_spec =
     tie.close
     (tie.spec
     invariant-loop

@@ -10,11 +10,11 @@ use Rattle.state_bytes.proofs.head.blocks_of.Tie as tie
 returns : tie.Need-returns
 returns c =
     let s = c.before.before.before.before.before.before.before.before in
-    let long : length s.args.t1 ≡ 8 = let g = s.well-formed in search (length_unmapped, g) in
-    eight_are s.args.t1 long
+    let long : length s.args.block ≡ 8 = let g = s.well_formed in search (length_unmapped, g) in
+    eight_are s.args.block long
 
-pub blocks-of-spec : {M : Type 1} → statement M
-blocks-of-spec =
+pub blocks_of_spec : {M : Type 1} → statement M
+blocks_of_spec =
     tie.close
     (tie.spec
     (λ c. search rules)

@@ -6,5 +6,5 @@ use Rattle.state_bytes.proofs.head.pointer_in.Tie as tie
 returns : tie.Need-returns
 returns c = rw c.number32.ensures.0
 
-pub pointer-in-spec : {M : Type 1} → statement M
-pointer-in-spec = tie.close (tie.spec (λ c κs. search rules) returns)
+pub pointer_in_spec : {M : Type 1} → statement M
+pointer_in_spec = tie.close (tie.spec (λ c κs. search rules) returns)

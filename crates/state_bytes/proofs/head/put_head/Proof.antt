@@ -22,12 +22,12 @@ returns c =
     let call2 = call3.before.before.before.before in
     let call1 = call2.before.before.before.before in
     let s = call1.before.before.before.before.before in
-    let numbers = and_then (and_then (and_then (and_then (and_then (put call1.put-u32.ensures) (put call2.put-u322.ensures) refl refl) (put call3.put-u8.ensures) refl refl) (put call4.put-u323.ensures) refl refl) (put call5.put-u324.ensures) refl refl) (put call6.put-u325.ensures) refl refl in
-    let eight : length s.args.line.view.block ≡ 8 = (shape_of s.args.line s.well-formed.1.0).blocks_length in
-    (and_then (and_then numbers (put call7.put_view.ensures) refl refl) (put call8.put-u326.ensures) (omega (arith, block_numbers_length s.args.line.view.block)) refl).left
+    let numbers = and_then (and_then (and_then (and_then (and_then (put call1.put_u32.ensures) (put call2.put_u32-2.ensures) refl refl) (put call3.put_u8.ensures) refl refl) (put call4.put_u32-3.ensures) refl refl) (put call5.put_u32-4.ensures) refl refl) (put call6.put_u32-5.ensures) refl refl in
+    let eight : length s.args.line.view.block ≡ 8 = (shape_of s.args.line s.well_formed.1.0).blocks_length in
+    (and_then (and_then numbers (put call7.put_view.ensures) refl refl) (put call8.put_u32-6.ensures) (omega (arith, block_numbers_length s.args.line.view.block)) refl).left
 
-pub put-head-spec : {M : Type 1} → statement M
-put-head-spec =
+pub put_head_spec : {M : Type 1} → statement M
+put_head_spec =
     tie.close
     (tie.spec
     (λ c κs. search rules)

@@ -19,11 +19,11 @@ returns c =
     let blocks = call1.before.before in
     let s = blocks.before.before.before in
     let v = s.args.view in
-    (and_then (and_then (and_then (put call1.put-u32.ensures) (put call2.put-u16.ensures) refl refl) (put call3.put-u8.ensures) refl refl) (put call4.put-blocks.ensures) refl refl).left
-    ∙ ap (λ (bs : List Block). put_fields (4 ∷ 2 ∷ 1 ∷ replicate 16 2) (v.displacement ∷ v.extent ∷ v.used ∷ block_numbers bs) s.args.bytes.now s.args.at) blocks.blocks-of.ensures
+    (and_then (and_then (and_then (put call1.put_u32.ensures) (put call2.put_u16.ensures) refl refl) (put call3.put_u8.ensures) refl refl) (put call4.put_blocks.ensures) refl refl).left
+    ∙ ap (λ (bs : List Block). put_fields (4 ∷ 2 ∷ 1 ∷ replicate 16 2) (v.displacement ∷ v.extent ∷ v.used ∷ block_numbers bs) s.args.bytes.now s.args.at) blocks.blocks_of-blocks.ensures
 
-pub put-view-spec : {M : Type 1} → statement M
-put-view-spec =
+pub put_view_spec : {M : Type 1} → statement M
+put_view_spec =
     tie.close
     (tie.spec
     (λ c κs. search rules)

@@ -15,10 +15,10 @@ returns c =
     let b2 = b3.before in
     let b1 = b2.before in
     let s = b1.before.before in
-    rw (b1.block_at.ensures, b2.block-at2.ensures, b3.block-at3.ensures, b4.block-at4.ensures, b5.block-at5.ensures, b6.block-at6.ensures, b7.block-at7.ensures, b8.block-at8.ensures, c.before.before.number32.ensures.0, c.before.number16.ensures.0, number_of_one s.args.bytes.now 27 (search rules))
+    rw (b1.block_at-b0.ensures, b2.block_at-b1.ensures, b3.block_at-b2.ensures, b4.block_at-b3.ensures, b5.block_at-b4.ensures, b6.block_at-b5.ensures, b7.block_at-b6.ensures, b8.block_at-b7.ensures, c.number32.ensures.0, c.number16.ensures.0, number_of_one s.args.bytes.now 27 (search rules))
 
-pub view-in-spec : {M : Type 1} → statement M
-view-in-spec =
+pub view_in_spec : {M : Type 1} → statement M
+view_in_spec =
     tie.close
     (tie.spec
     (λ c κs. search rules)

@@ -10,22 +10,22 @@ use borrow.Author.Rules.{rules}
 use Rattle.state_calls.proofs.told.is_sound.Statement.{statement}
 use Rattle.state_calls.proofs.told.is_sound.Tie as tie
 
-a_line : (c : tie.Else1) → is_state c.before.before.before.args.state.now ≡ true
-a_line c = sym c.before.is_state.ensures ∙ not-false _ c.if1.false
+a_line : (c : tie.Else-not-is_state) → is_state c.args.state.now ≡ true
+a_line c = sym c.is_state.ensures ∙ not-false _ c.if-not-is_state.false-raw
 
-returns : tie.Need-returns
-returns c = rw (sym c.before.is_state.ensures ∙ not-true _ c.if1.true)
+returns : tie.Need-returns-then-not-is_state
+returns c = rw (sym c.is_state.ensures ∙ not-true _ c.if-not-is_state.true-raw)
 
-line-in-requires : tie.Need-line-in-requires
+line-in-requires : tie.Need-line_in-requires
 line-in-requires c κs = state_long _ (a_line c)
 
-returns-2 : tie.Need-returns-2
+returns-2 : tie.Need-returns
 returns-2 c =
     let tested = c.before.before in
-    rw (a_line tested) (c.is-sound.ensures ∙ ap (λ (l : Line). sound l tested.before.before.before.args.book) c.before.line-in.ensures)
+    rw (a_line tested) (c.is_sound.ensures ∙ ap (λ (l : Line). sound l tested.args.book) c.line_in.ensures)
 
-pub is-sound-spec : {M : Type 1} → statement M
-is-sound-spec =
+pub is_sound_spec : {M : Type 1} → statement M
+is_sound_spec =
     tie.close
     (tie.spec
     (λ c κs. search rules)

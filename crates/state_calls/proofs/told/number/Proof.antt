@@ -8,20 +8,20 @@ use borrow.Author.Rules.{rules}
 use Rattle.state_calls.proofs.told.number.Statement.{statement}
 use Rattle.state_calls.proofs.told.number.Tie as tie
 
-a_line : (c : tie.Else1) → is_state c.before.before.before.args.state.now ≡ true
-a_line c = sym c.before.is_state.ensures ∙ not-false _ c.if1.false
+a_line : (c : tie.Else-not-is_state) → is_state c.args.state.now ≡ true
+a_line c = sym c.is_state.ensures ∙ not-false _ c.if-not-is_state.false-raw
 
-returns : tie.Need-returns
-returns c = rw (sym c.before.is_state.ensures ∙ not-true _ c.if1.true)
+returns : tie.Need-returns-then-not-is_state
+returns c = rw (sym c.is_state.ensures ∙ not-true _ c.if-not-is_state.true-raw)
 
-number-of-requires : tie.Need-number-of-requires
+number-of-requires : tie.Need-number_of-requires
 number-of-requires c κs = state_long _ (a_line c)
 
-returns-2 : tie.Need-returns-2
-returns-2 c = rw (a_line c.before) c.number_of_lem.ensures
+returns-2 : tie.Need-returns
+returns-2 c = rw (a_line c.before) c.number_of.ensures
 
-pub number-spec : {M : Type 1} → statement M
-number-spec =
+pub number_spec : {M : Type 1} → statement M
+number_spec =
     tie.close
     (tie.spec
     (λ c κs. search rules)

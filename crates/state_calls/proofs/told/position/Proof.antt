@@ -12,23 +12,23 @@ use borrow.Author.Rules.{rules}
 use Rattle.state_calls.proofs.told.position.Statement.{statement}
 use Rattle.state_calls.proofs.told.position.Tie as tie
 
-a_line : (c : tie.Else1) → is_state c.before.before.before.args.state.now ≡ true
-a_line c = sym c.before.is_state.ensures ∙ not-false _ c.if1.false
+a_line : (c : tie.Else-not-is_state) → is_state c.args.state.now ≡ true
+a_line c = sym c.is_state.ensures ∙ not-false _ c.if-not-is_state.false-raw
 
-returns : tie.Need-returns
-returns c = rw (sym c.before.is_state.ensures ∙ not-true _ c.if1.true)
+returns : tie.Need-returns-then-not-is_state
+returns c = rw (sym c.is_state.ensures ∙ not-true _ c.if-not-is_state.true-raw)
 
-view-in-requires : tie.Need-view-in-requires
+view-in-requires : tie.Need-view_in-view-requires
 view-in-requires c κs = omega (arith, state_long _ (a_line c))
 
-returns-2 : tie.Need-returns-2
+returns-2 : tie.Need-returns
 returns-2 c =
     let tested = c.before.before in
-    let k = place tested.before.before.before.args.place in
-    rw (a_line tested) (ap (λ (p : Position). p.0) c.position.ensures.is ∙ ap (λ (v : View). (position_of v k).0) c.before.view_in.ensures)
+    let k = place tested.args.place in
+    rw (a_line tested) (ap (λ (p : Position). p.0) c.position-found.ensures.is ∙ ap (λ (v : View). (position_of v k).0) c.view_in-view.ensures)
 
-pub position-spec : {M : Type 1} → statement M
-position-spec =
+pub position_spec : {M : Type 1} → statement M
+position_spec =
     tie.close
     (tie.spec
     (λ c κs. search rules)

@@ -9,15 +9,15 @@ use borrow.Author.Rules.{rules}
 use Rattle.tiling.proofs.Tiling.fits.Statement.{statement}
 use Rattle.tiling.proofs.Tiling.fits.Tie as tie
 
-returns-2 : tie.Need-returns-2
+returns-2 : tie.Need-returns
 returns-2 c =
-    let a = c.before.before.before.before.args in
+    let a = c.args in
     let some : 0 < a.count = omega arith in
-    ap (λ (p : Position). leb (p.0 + 8) a.capacity) c.before.position.ensures.is
+    ap (λ (p : Position). leb (p.0 + 8) a.capacity) c.position-position.ensures.is
     ∙ sym (table_last a.self a.records.now a.capacity a.place a.count some)
 
-pub fits-spec : {M : Type 1} → statement M
-fits-spec =
+pub fits_spec : {M : Type 1} → statement M
+fits_spec =
     tie.close
     (tie.spec
     (λ c. search rules)

@@ -6,23 +6,20 @@ use Rattle.answer_text.proofs.Accepted.{not_refused}
 use Rattle.trace_text.proofs.answers.put_told.Statement.{statement}
 use Rattle.trace_text.proofs.answers.put_told.Tie as tie
 
-put-values-requires : tie.Need-put-values-requires
+put-values-requires : tie.Need-put_values-requires
 put-values-requires c κs =
-    let s = c.before.before.before in
-    omega (arith, s.requires, values_short s.args.answer _ s.well-formed.1.1.0)
+    omega (arith, c.requires, values_short c.args.answer _ c.well_formed.1.1.0)
 
-returns : tie.Need-returns
-returns c = rw c.before.before.before.before.before.answer.given.1 (search rules)
+returns : tie.Need-returns-in-Refused
+returns c = rw c.in-Refused.is (search rules)
 
-returns-2 : tie.Need-returns-2
+returns-2 : tie.Need-returns-in_default
 returns-2 c =
-    let call = c.before.before in
-    let s = c.before.before.before.before.before.before in
-    rw (not_refused s.args.answer c.before.before.before.before.match.keys2)
-    (call.put-values.ensures, omega (arith, call.put-values.ensures.ends, values_short s.args.answer _ s.well-formed.1.1.0))
+    rw (not_refused c.args.answer c.in_default.in_default-own.keys2)
+    (c.put_values.ensures, omega (arith, c.put_values.ensures.ends, values_short c.args.answer _ c.well_formed.1.1.0))
 
-pub put-told-spec : {M : Type 1} → statement M
-put-told-spec =
+pub put_told_spec : {M : Type 1} → statement M
+put_told_spec =
     tie.close
     (tie.spec
     (λ c. search rules)

@@ -9,14 +9,12 @@ use Rattle.trace_text.proofs.columns.end_column.Tie as tie
 
 returns : tie.Need-returns
 returns c =
-    let p = c.before.before in
-    let s = c.before.before.before.before.before.before in
-    let wide : p.before.column-end.result - (s.args.end - 1) ≡ s.args.width - (s.args.end - 1 - s.args.start) + 2 = omega (arith, p.before.column-end.ensures) in
-    let stored = rw wide at p.put-blanks.ensures in
-    (stored, omega (arith, stored.ends, length-replicate {A = ℕ} (s.args.width - (s.args.end - 1 - s.args.start) + 2) 32, s.requires.0))
+    let wide : c.column_end.result - (c.args.end - 1) ≡ c.args.width - (c.args.end - 1 - c.args.start) + 2 = omega (arith, c.column_end.ensures) in
+    let stored = rw wide at c.put_blanks.ensures in
+    (stored, omega (arith, stored.ends, length-replicate {A = ℕ} (c.args.width - (c.args.end - 1 - c.args.start) + 2) 32, c.requires.0))
 
-pub end-column-spec : {M : Type 1} → statement M
-end-column-spec =
+pub end_column_spec : {M : Type 1} → statement M
+end_column_spec =
     tie.close
     (tie.spec
     (λ c. search rules)

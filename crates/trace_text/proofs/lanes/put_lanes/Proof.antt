@@ -9,34 +9,34 @@ use Rattle.trace_text.specs.Trace.{lane_line}
 use Rattle.trace_text.proofs.lanes.put_lanes.Statement.{statement}
 use Rattle.trace_text.proofs.lanes.put_lanes.Tie as tie
 
-abbrev invariant-loop : tie.invariant-loop
+abbrev invariant-loop : tie.invariant-loop-i
 invariant-loop out₀ at count lane end₀ i₀ out end i = SoFar (λ (k : ℕ). lane_line k (get_or lane k idle_lane).phase) 0 count 40 out₀ at out end i
 
-abbrev decreases-loop : tie.decreases-loop
+abbrev decreases-loop : tie.decreases-loop-i
 decreases-loop out₀ at count lane end₀ i₀ out end i = count - i
 
-loop-holds : tie.Need-loop-init invariant-loop decreases-loop
+loop-holds : tie.Need-loop-i-init invariant-loop decreases-loop
 loop-holds c = none_yet _ _ _ _ _ _
 
-put-lane-requires : tie.Need-put-lane-requires invariant-loop decreases-loop
+put-lane-requires : tie.Need-put_lane-end-requires invariant-loop decreases-loop
 put-lane-requires c κs =
-    let lp = c.before.before.before.loop in
-    omega (arith, lp.invariant.short, lp.invariant.same_length, c.before.before.loop-test.true, c.before.before.before.before.before.row-length.ensures.1, c.before.before.before.before.before.before.before.requires)
+    let lp = c.loop-i in
+    omega (arith, lp.invariant.short, lp.invariant.same_length, c.loop-i-test.true, c.row_length-count.ensures.1, c.requires)
 
-loop-again : tie.Need-loop-preserved invariant-loop decreases-loop
+loop-again : tie.Need-loop-i-preserved invariant-loop decreases-loop
 loop-again c =
-    let lp = c.before.before.before.before.before.before.loop in
-    let p = c.before.before.put_lane in
-    one_more _ _ _ _ _ _ lp.i lp.invariant (omega (arith, c.before.before.before.before.before.loop-test.true)) p.ensures.0 p.ensures.1
+    let lp = c.loop-i in
+    let p = c.put_lane-end in
+    one_more _ _ _ _ _ _ lp.i lp.invariant (omega (arith, c.loop-i-test.true)) p.ensures.0 p.ensures.1
 
 returns : tie.Need-returns invariant-loop decreases-loop
 returns c =
-    let lp = c.before.loop in
-    let count = c.before.before.before.row-length.ensures in
-    (rw (← count.0) (all_stored _ _ _ _ _ _ lp.i lp.invariant (omega (arith, c.loop-test.false))), omega (arith, lp.invariant.short, lp.invariant.most, count.1))
+    let lp = c.loop-i in
+    let count = c.row_length-count.ensures in
+    (rw (← count.0) (all_stored _ _ _ _ _ _ lp.i lp.invariant (omega (arith, c.loop-i-test.false))), omega (arith, lp.invariant.short, lp.invariant.most, count.1))
 
-pub put-lanes-spec : {M : Type 1} → statement M
-put-lanes-spec =
+pub put_lanes_spec : {M : Type 1} → statement M
+put_lanes_spec =
     tie.close
     (tie.spec
     invariant-loop

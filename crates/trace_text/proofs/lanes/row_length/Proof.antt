@@ -8,17 +8,15 @@ use Rattle.trace_text.specs.TraceLine.{letter_of}
 use Rattle.trace_text.proofs.lanes.row_length.Statement.{statement}
 use Rattle.trace_text.proofs.lanes.row_length.Tie as tie
 
-returns : tie.Need-returns
+returns : tie.Need-returns-then-lanes-gt-MOST_LANES
 returns c =
-    let s = c.before.before in
-    let l = s.args.line in
-    (omega (arith, c.if1.true, (shape_of l s.well-formed.0).lanes_length, length-take l.lanes l.lane, length-map (take l.lanes l.lane) (on letter_of)), omega arith)
+    let l = c.args.line in
+    (omega (arith, c.if-lanes-gt-MOST_LANES.true, (shape_of l c.well_formed.0).lanes_length, length-take l.lanes l.lane, length-map (take l.lanes l.lane) (on letter_of)), omega arith)
 
-returns-2 : tie.Need-returns-2
+returns-2 : tie.Need-returns
 returns-2 c =
-    let s = c.before.before in
-    let l = s.args.line in
-    (omega (arith, c.if1.false, (shape_of l s.well-formed.0).lanes_length, length-take l.lanes l.lane, length-map (take l.lanes l.lane) (on letter_of)), omega (arith, c.if1.false))
+    let l = c.args.line in
+    (omega (arith, c.if-lanes-gt-MOST_LANES.false, (shape_of l c.well_formed.0).lanes_length, length-take l.lanes l.lane, length-map (take l.lanes l.lane) (on letter_of)), omega (arith, c.if-lanes-gt-MOST_LANES.false))
 
-pub row-length-spec : {M : Type 1} → statement M
-row-length-spec = tie.close (tie.spec (λ c. search rules) returns returns-2)
+pub row_length_spec : {M : Type 1} → statement M
+row_length_spec = tie.close (tie.spec (λ c. search rules) returns returns-2)

@@ -9,28 +9,28 @@ use Rattle.trace_text.proofs.Texts.{SoFar, all_stored, none_yet, one_more}
 use Rattle.trace_text.proofs.summary.put_all_refused.Statement.{statement}
 use Rattle.trace_text.proofs.summary.put_all_refused.Tie as tie
 
-abbrev invariant-loop : tie.invariant-loop
+abbrev invariant-loop : tie.invariant-loop-refusal
 invariant-loop out₀ at counts end₀ refusal₀ out end refusal = SoFar (λ (k : ℕ). refused_line k (get_or counts k 0)) 1 last_reason 96 out₀ at out end refusal
 
-abbrev decreases-loop : tie.decreases-loop
+abbrev decreases-loop : tie.decreases-loop-refusal
 decreases-loop out₀ at counts end₀ refusal₀ out end refusal = last_reason + 1 - refusal
 
-loop-holds : tie.Need-loop-init invariant-loop decreases-loop
+loop-holds : tie.Need-loop-refusal-init invariant-loop decreases-loop
 loop-holds c = none_yet _ _ _ _ _ _
 
-loop-again : tie.Need-loop-preserved invariant-loop decreases-loop
+loop-again : tie.Need-loop-refusal-preserved invariant-loop decreases-loop
 loop-again c =
-    let lp = c.before.before.before.before.before.loop in
-    let p = c.before.before.Put-refused in
-    one_more _ _ _ _ _ _ lp.refusal lp.invariant (omega (arith, c.before.before.before.before.loop-test.true)) p.ensures.0 p.ensures.1
+    let lp = c.loop-refusal in
+    let p = c.put_refused-end in
+    one_more _ _ _ _ _ _ lp.refusal lp.invariant (omega (arith, c.loop-refusal-test.true)) p.ensures.0 p.ensures.1
 
 returns : tie.Need-returns invariant-loop decreases-loop
 returns c =
-    let lp = c.before.loop in
-    (all_stored _ _ _ _ _ _ lp.refusal lp.invariant (omega (arith, c.loop-test.false)), omega (arith, lp.invariant.short, lp.invariant.most))
+    let lp = c.loop-refusal in
+    (all_stored _ _ _ _ _ _ lp.refusal lp.invariant (omega (arith, c.loop-refusal-test.false)), omega (arith, lp.invariant.short, lp.invariant.most))
 
-pub put-all-refused-spec : {M : Type 1} → statement M
-put-all-refused-spec =
+pub put_all_refused_spec : {M : Type 1} → statement M
+put_all_refused_spec =
     tie.close
     (tie.spec
     invariant-loop

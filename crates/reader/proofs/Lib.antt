@@ -1,2 +1,0 @@
--- The law by which a local is lent for one call.
-pub mod Lent
