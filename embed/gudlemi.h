@@ -17,7 +17,7 @@
  *                  (GUDLEMI_WORD_REGION: lane 0 has places 0 and 1, and writes them by two 05)
  *
  * To link, with this header and libembed.a in the folder: cc main.c -I. -L. -lembed. From the library's repository the
- * archive is made with `rt staticlib embed`, which writes target/staticlib/libembed.a.
+ * archive is made with `embed/build`, which writes target/staticlib/libembed.a.
  *
  * It is for x86-64 Linux. Of the C library it needs memcpy and memset alone.
  *
@@ -415,8 +415,8 @@ uint32_t gudlemi_version(void);
  * Stack, in bytes, at most; measured by tests/embed on the stored sheets and on calls made for it, and bounded by no
  * proof:
  *
- *     gudlemi_run            48000
- *     gudlemi_run_reported   48000
+ *     gudlemi_run            71000
+ *     gudlemi_run_reported   71000
  *     gudlemi_event_length     300
  *     gudlemi_event_refusal    300
  *     gudlemi_mean              16
@@ -434,14 +434,14 @@ uint32_t gudlemi_version(void);
  *     gudlemi_answer_length     16
  *     gudlemi_layout            16
  *
- * Where the loader looks for memcpy and memset only when they are first called, a first gudlemi_run took 2,032 bytes
- * more. Much of a run's stack is for the report, which is handed on by value inside the library.
+ * Where the loader looks for memcpy and memset only when they are first called, a first gudlemi_run took no more. Much
+ * of a run's stack is for the report, which is handed on by value inside the library.
  *
  * Each function is proved to answer and to leave exactly what its definitions say: in crates/embed/specs/Embedded.antt
  * and AnswerText.antt; of a call in crates/state_calls/specs, with the bytes in
  * crates/state_bytes/specs/StateBytes.antt and crates/answer_bytes/specs/AnswerBytes.antt; of a run in
- * crates/run/specs/Runs.antt (printedBy, leftByRun, textIn, reportBy), from the state `fresh` of
- * crates/steps/specs/State.antt. What a report of waiting counts is in crates/report/specs: Rows, Growth and Lent. */
+ * crates/run/specs/Runs.antt (printed_by, left_by_run, text_in, report_by), from the state
+ * `fresh` of crates/steps/specs/State.antt. What a report of waiting counts is in crates/report/specs: Rows, Growth and Lent. */
 
 #ifdef __cplusplus
 }

@@ -5,7 +5,7 @@ use std::env;
 use std::path::{Path, PathBuf};
 use std::process::exit;
 
-/// From the package's folder, where `rt staticlib embed` writes.
+/// From the package's folder, where `embed/build` writes.
 const DEFAULT: &str = "../../target/staticlib";
 
 fn main() {
@@ -17,7 +17,7 @@ fn main() {
     let folder = env::var_os("GUDLEMI_LIB").map_or_else(|| PathBuf::from(DEFAULT), PathBuf::from);
     let Ok(archive) = folder.join("libembed.a").canonicalize() else {
         stop(&format!(
-            "no libembed.a in {}: make it with `rt staticlib embed`, or name its folder in GUDLEMI_LIB",
+            "no libembed.a in {}: make it with `embed/build`, or name its folder in GUDLEMI_LIB",
             folder.display()
         ));
     };

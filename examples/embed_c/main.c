@@ -1,7 +1,7 @@
 /* embed_c SHEET: prints where each event of a sheet file starts and how long it is, then runs the sheet.
  * embed_c report SHEET...: runs the sheets over one report of waiting, and prints it as a table.
  *
- * Build, after `rt staticlib embed`, from the repository's top:
+ * Build, after `embed/build`, from the repository's top:
  *     cc -std=c99 examples/embed_c/main.c -I embed -L target/staticlib -lembed -o embed_c
  */
 #include <errno.h>

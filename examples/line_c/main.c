@@ -1,7 +1,7 @@
 /* line_c start FILE: opens a line, makes calls on it, and saves its state and its book in the file.
  * line_c go-on FILE: goes on from the file, in another process: the lane that was woken makes its calls, and the book is printed.
  *
- * Build, after `rt staticlib embed`, from the repository's top:
+ * Build, after `embed/build`, from the repository's top:
  *     cc -std=c99 examples/line_c/main.c -I embed -L target/staticlib -lembed -o line_c
  */
 #define _POSIX_C_SOURCE 200809L /* for fsync */

@@ -5,7 +5,7 @@
  * Each lane does TAKES takes of 1 to MOST records, and after every 8 of them an ordered call with all others; the counts are
  * made up from SEED. Status: 0, 1 where something is wrong, 2 where the arguments are refused.
  *
- * Build, after `rt staticlib embed`, from the repository's top (examples/mpi/run does this, and runs it on one machine):
+ * Build, after `embed/build`, from the repository's top (examples/mpi/run does this, and runs it on one machine):
  *     mpicc -std=c99 examples/mpi/[a-z]*.c -I embed -L target/staticlib -lembed -o line_mpi
  * On several machines the two files must lie where all of them see them: mpiexec -f HOSTS -n 17 ./line_mpi BOOK SHARED 50 8 1
  * (Where ranks send by TCP, Debian's MPICH 4.0.2 was seen to hang in MPI_Finalize, in a program of ten lines too. All is

@@ -3,7 +3,7 @@
 //!
 //! What a sheet and a book are, and each printed line, is in document 01; `embed/gudlemi.h` has the same functions for C.
 //!
-//! To link: make the library with `rt staticlib embed`, then build. Where libembed.a is not in this repository's
+//! To link: make the library with `embed/build`, then build. Where libembed.a is not in this repository's
 //! target/staticlib, name its folder in the environment variable GUDLEMI_LIB, best as an absolute path. A program that
 //! depends on this crate needs no link settings of its own.
 //!

@@ -1,7 +1,7 @@
 //! `embed_rust SHEET`: prints where each event of a sheet file starts and how long it is, then runs the sheet.
 //! `embed_rust report SHEET...`: runs the sheets over one report of waiting, and prints it as a table.
 //!
-//! Build, after `rt staticlib embed`, from the repository's top:
+//! Build, after `embed/build`, from the repository's top:
 //!     cargo build --release --manifest-path examples/embed_rust/Cargo.toml
 
 use gudlemi::{event_at, run_reported, run_to_string, text_bound};

@@ -1,7 +1,7 @@
 //! A line on real processes. `home serve` is the home process of a line. `home trial` starts it with lanes, which are `home lane`, and
 //! kills it meanwhile; `home check` looks at what a trial has left. `home finish` finishes what dead lanes have left.
 //!
-//! Build, after `rt staticlib embed`, from the repository's top:
+//! Build, after `embed/build`, from the repository's top:
 //!     cargo build --release --manifest-path examples/home/Cargo.toml
 
 mod call;

@@ -2,7 +2,7 @@
 //! `line_rust go-on FILE`: goes on from the file, in another process: the lane that was woken makes its calls, and the book
 //! is printed.
 //!
-//! Build, after `rt staticlib embed`, from the repository's top:
+//! Build, after `embed/build`, from the repository's top:
 //!     cargo build --release --manifest-path examples/line_rust/Cargo.toml
 
 use gudlemi::{layout, Answer, Line, Phase, Purpose, LAYOUT, STATE_LENGTH};
