@@ -14,8 +14,8 @@ const WORDS: usize = 1024;
 
 // The word of which `count` bits from bit `low` upwards are 1.
 fn mask_of(low: usize, count: usize) -> u64
-    requires count_nonzero { 0 < count }
-    requires count_bound { low + count ≤ 64 }
+    requires some_bits { 0 < count }
+    requires in_word { low + count ≤ 64 }
     ensures { result ≡ mask_of low count }
 {
     (u64::MAX >> (64 - count)) << low
@@ -34,8 +34,8 @@ fn in_word(k: usize, left: usize) -> usize
 
 // Marks `count` places from place `first` upwards, a word at a time; stops where one of them is marked.
 fn mark_places(words: &mut [u64; WORDS], first: usize, count: usize) -> bool
-    requires words_len { length words.old ≡ 1024 }
-    requires count_bound { 0 < count → first + count ≤ most_pointer }
+    requires whole { length words.old ≡ 1024 }
+    requires in_range { 0 < count → first + count ≤ most_pointer }
     ensures { Marks words.old words.new first count result }
 {
     let mut k = first;
@@ -56,8 +56,8 @@ fn mark_places(words: &mut [u64; WORDS], first: usize, count: usize) -> bool
 
 // Marks the regions of all lanes; stops at one of which a place is marked. A lane that is not busy has no record left.
 fn mark_lanes(words: &mut [u64; WORDS], lane: [Lane; MOST_LANES]) -> bool
-    requires words_len { length words.old ≡ 1024 }
-    requires lane_value { all_pass (on region_within) lane ≡ true }
+    requires whole { length words.old ≡ 1024 }
+    requires regions_within { all_pass (on region_within) lane ≡ true }
     ensures { result ≡ regions_free words.old lane }
 {
     let mut i: usize = 0;

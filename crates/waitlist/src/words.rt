@@ -52,8 +52,8 @@ fn word_16(flags: &[u8; MOST_LANES], i: usize) -> u32
 
 // The word of `sixteens` times 16 flags from lane `first` upwards.
 fn gather(flags: &[u8; MOST_LANES], first: usize, sixteens: usize) -> u64
-    requires sixteens_bound { sixteens ≤ 4 }
-    requires sixteens_bound_2 { first + 16 * sixteens ≤ most_lanes }
+    requires in_word { sixteens ≤ 4 }
+    requires in_row { first + 16 * sixteens ≤ most_lanes }
     ensures { result ≡ word flags.now first (16 * sixteens) }
 {
     let mut gathered: u64 = 0;
@@ -78,8 +78,8 @@ fn first_in_word(flags: &[u8; MOST_LANES], start: usize) -> usize
 // The first flagged lane from `start` up to, and not including, `end`; where none is, the first from 0 up to `rest`; MOST_LANES where none is there either.
 // It calls itself for the next word, of which the compiler makes a loop: a word is gathered only where the one before it has no flag.
 pub fn first_raised(flags: &[u8; MOST_LANES], start: usize, end: usize, rest: usize) -> usize
-    requires end_le_most_lanes { end ≤ most_lanes }
-    requires rest_le_most_lanes { rest ≤ most_lanes }
+    requires end_in_row { end ≤ most_lanes }
+    requires rest_in_row { rest ≤ most_lanes }
     ensures { result ≡ lane_or most_lanes (or_else (first_raised flags.now start (end - start)) (first_raised flags.now 0 rest)) }
 {
     if end <= start {
