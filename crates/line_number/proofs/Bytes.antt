@@ -88,6 +88,12 @@ keeps_next {n} {own} k few more =
           (λ b. inr (next_bytes n own few same b)) k.bytes;
     }
 
+pub keeps_counted : (own : LineNumber) → Keeps (number_in own) own → number_in own + 11 < 18446744073709551616 → (own.left ≡ 1 → ⊥) → Keeps (number_in own + 1) (counted_up own)
+keeps_counted own k few more = keeps_next k (omega (arith, few)) more
+
+pub counted_fits : (own : LineNumber) → Keeps (number_in own) own → number_in own + 11 < 18446744073709551616 → (own.left ≡ 1 → ⊥) → own.word + own.unit < 18446744073709551616
+counted_fits own k few more = keeps_below (keeps_counted own k few more)
+
 -- and where it differs in others too, it is the one at which the bytes are made anew
 pub ten_next : {n : ℕ} {own : LineNumber} → Keeps n own → own.left ≡ 1 → own.ten ≡ n + 1
 ten_next k e = omega (arith, k.number)

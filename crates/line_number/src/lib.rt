@@ -99,6 +99,7 @@ fn line_number(n: u64) -> LineNumber
 }
 
 // The number of the next line.
+#[tactic(auto, using(crate::proofs::Bytes::keeps_counted, crate::proofs::Bytes::counted_fits))]
 pub fn next_number(own: LineNumber) -> LineNumber
     requires { Keeps (number_in own) own × (number_in own + 11 < 18446744073709551616) }
     ensures { Keeps (number_in own + 1) result }

@@ -70,6 +70,7 @@ fn put_other(out: &mut [u8], at: usize, c: u8) -> usize
 }
 
 // The character that was found, to the line's end.
+#[tactic(auto, unfolding(crate::specs::Message::character_line))]
 fn put_character(out: &mut [u8], at: usize, c: u8) -> usize
     requires { at + 57 ≤ length out.old }
     ensures { Stored (character_line c) out.old at out.new result × (result ≤ at + 57) }
