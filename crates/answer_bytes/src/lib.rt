@@ -1,4 +1,6 @@
 // An answer in lent bytes: stored, told from other bytes, and read back. The layout is in specs/AnswerBytes.
+#![tactic(auto)]
+
 ghost use Rattle.std.specs.Prelude.{◌≡◌, [], ◌∷◌, ◌++◌, ◌%◌, ◌≤◌, length};
 ghost use Rattle.std.proofs.lemmas.List.Edits.{sets};
 ghost use Rattle.lists.specs.Lists.{same_numbers};

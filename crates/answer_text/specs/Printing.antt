@@ -9,7 +9,7 @@ use Rattle.answer_text.specs.declared.Printed.{Printed}
 abbrev pub most_line : ℕ
 most_line = 56
 
--- the longest line past its number and the blank; that no answer's is longer: answer_text/Lengths: values-short
+-- the longest line past its number and the blank; that no answer's is longer: answer_text/Lengths: values_short
 abbrev pub most_values : ℕ
 most_values = 35
 

@@ -250,7 +250,7 @@ pub fn read_body(kind: u8, sheet: &[u8], at: usize) -> Reading
 }
 
 // The event at a cursor and the cursor past it, the sheet's end, or refusal 2 or 3.
-// By event's law read-writes-back the event's bytes are those between the two cursors.
+// By event's law read_writes_back the event's bytes are those between the two cursors.
 pub fn read_event(sheet: &[u8], cursor: Cursor) -> Reading
     ensures { result ≡ read_at sheet.now cursor.at }
 {

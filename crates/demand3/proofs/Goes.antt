@@ -33,7 +33,7 @@ use Rattle.demand3.specs.Claim.{next_call, release, woken}
 use Rattle.demand3.proofs.Status.{number_for, status_of}
 use Rattle.demand3.proofs.Turn.{same_turn, turn_found, turn_up, up_count, up_inside}
 
--- ---- the nextCall calls as events
+-- ---- the calls of next_call as events
 one_byte : (b : ℕ) → number_of (b ∷ []) ≡ b
 unfolding number_of
 one_byte b = omega arith

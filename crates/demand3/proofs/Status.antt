@@ -24,7 +24,7 @@ use Rattle.event.specs.Event.{given}
 use Rattle.event.specs.declared.Event.{Event}
 use Rattle.steps.specs.Answer.{said_by}
 use Rattle.steps.specs.State.{Result, State}
-use Rattle.steps.specs.Effects.{all_entered, entered, lowered, next_of, one_less, others_down, purpose_of, reading, released, started, wake, woken as wokenPhase, writing}
+use Rattle.steps.specs.Effects.{all_entered, entered, lowered, next_of, one_less, others_down, purpose_of, reading, released, started, wake, woken as woken_phase, writing}
 use Rattle.steps.specs.Step.{after_by}
 use Rattle.steps.proofs.Cases.{Steps, enters, frees, looks, opens, puts, reads, receives, refuses, seeks, take_reads, take_writes, views, wants, writes}
 use Rattle.steps.proofs.Keeps.{GoodState, free_leaving, fresh_idle, take_reads_leaving, take_writes_leaving}
@@ -113,7 +113,7 @@ module _ (x : State) (G : GoodState x) (i : ℕ) where
       go (Wakes.Lane w) t =
           sn ∙ elim (ℕ_discrete i w) [
             | yes z ↦ rw (names ∙ eq-eqb i w z, lines) (rw z (rw (C.was, now_woken)))
-            | no z ↦ rw (names ∙ ne_eqb i w z, lines, other_phase (lowered x.line k y q) w i (wokenPhase q (phase_at (lowered x.line k y q) w)) z, stored_stand k y L.inside, yo)
+            | no z ↦ rw (names ∙ ne_eqb i w z, lines, other_phase (lowered x.line k y q) w i (woken_phase q (phase_at (lowered x.line k y q) w)) z, stored_stand k y L.inside, yo)
           ]
         where
           C : Chosen x.line k w

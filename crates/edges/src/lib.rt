@@ -1,1 +1,2 @@
 // What the definitions give at the edges of document 01, proved; no functions.
+#![tactic(auto)]

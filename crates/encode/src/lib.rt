@@ -67,7 +67,7 @@ fn put_event(event: Event, buffer: &mut [u8])
 }
 
 // An event written at the start of a lent buffer: its length, or refusal 2 or 3 and the buffer as it was.
-// By event's law written-reads-back what is left reads back as the event.
+// By event's law written_reads_back what is left reads back as the event.
 pub fn write_event(event: Event, buffer: &mut [u8]) -> Writing
     ensures { (result ≡ writing_of buffer.old event) × (buffer.new ≡ written_to buffer.old event) }
 {

@@ -11,7 +11,7 @@ use Rattle.event.specs.declared.Event.{Event}
 -- ---- a field of a body
 -- how it is shown in words: a number, a record, a signed offset, or the start of a block with the length that follows it
 pub data Form : Type 0 where
-  plain inHex with_sign blockStart blockLength : Form
+  plain in_hex with_sign block_start block_length : Form
 
 pub record Field : Type 0 where
   pub name : String
@@ -23,14 +23,14 @@ number name length = record { name = name; length = length; form = plain }
 
 -- "a record is 8 bytes"
 abbrev pub content : Field
-content = record { name = "record"; length = 8; form = inHex }
+content = record { name = "record"; length = 8; form = in_hex }
 
 abbrev pub offset : Field
 offset = record { name = "offset"; length = 4; form = with_sign }
 
 -- "(start 2, length 2)", and four of them
 abbrev pub start_and_length : List Field
-start_and_length = record { name = "start"; length = 2; form = blockStart } ∷ record { name = "length"; length = 2; form = blockLength } ∷ []
+start_and_length = record { name = "start"; length = 2; form = block_start } ∷ record { name = "length"; length = 2; form = block_length } ∷ []
 
 abbrev pub four_blocks : List Field
 four_blocks = start_and_length ++ start_and_length ++ start_and_length ++ start_and_length

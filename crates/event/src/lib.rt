@@ -1,4 +1,6 @@
 // Events: a kind and the fields of that kind's body.
+#![tactic(auto)]
+
 use view::{Block, Place};
 
 // The eight blocks of a view event, in order. (An array cannot stand in an enum.)

@@ -2,7 +2,7 @@
 use Rattle.std.specs.Prelude.{ℕ, List, [], ◌∷◌, get_or}
 use Rattle.printout.specs.Text.{ascii}
 
--- the numbers are 1 to this one; that each has its text: event_text/Reasons: reasons-counted
+-- the numbers are 1 to this one; that each has its text: event_text/Reasons: reasons_counted
 abbrev pub last_reason : ℕ
 last_reason = 17
 

@@ -2,7 +2,7 @@
 use Rattle.std.specs.Prelude.{ℕ, ◌-◌, cond, List, [], ◌∷◌, ◌++◌, map, ltb, get_or, length, replicate}
 use Rattle.view.specs.View.{block}
 use Rattle.view.specs.declared.Block.{Block}
-use Rattle.event.specs.Kinds.{Field, Form, blockLength, blockStart, inHex, kind_at, plain, with_sign}
+use Rattle.event.specs.Kinds.{Field, Form, block_length, block_start, in_hex, kind_at, plain, with_sign}
 use Rattle.event.specs.Event.{block_list, fields_of, kind_of}
 use Rattle.event.specs.declared.Blocks.{Blocks}
 use Rattle.event.specs.declared.Event.{Event}
@@ -38,10 +38,10 @@ block_words b = map block_text (block_list b)
 -- a field: its name and its number; a block stands without names
 abbrev pub field_words : Form → List ℕ → ℕ → List ℕ → List (List ℕ) → List (List ℕ)
 field_words plain name v later more = name ∷ decimal v ∷ more
-field_words inHex name v later more = name ∷ hex_in 16 v ∷ more
+field_words in_hex name v later more = name ∷ hex_in 16 v ∷ more
 field_words with_sign name v later more = name ∷ signed_text v ∷ more
-field_words blockStart name v later more = block_text (block v (get_or later 0 0)) ∷ more
-field_words blockLength name v later more = more
+field_words block_start name v later more = block_text (block v (get_or later 0 0)) ∷ more
+field_words block_length name v later more = more
 
 abbrev pub fields_words : List Field → List ℕ → List (List ℕ)
 fields_words [] vs = []

@@ -1,5 +1,5 @@
 -- Wish 2, "By this wish stored sheets keep their bytes, and their answers too unless an 01 with 65 to 128 lanes got 6 in them": the steps of a
--- version that takes at most `most` lanes, 64 for the one before, and the claim. A sheet is a list of calls (demand3/Sheets: sound-run-is-list).
+-- version that takes at most `most` lanes, 64 for the one before, and the claim. A sheet is a list of calls (demand3/Sheets: sound_run_is_list).
 use Rattle.std.specs.Prelude.{ℕ, ◌≤◌, ◌≡◌, Bool, true, cond, not, ◌&&◌, List, [], ◌∷◌, map, length, replicate, eqb, leb, ltb}
 use Rattle.limits.specs.Limits.{most_lanes}
 use Rattle.view.specs.View.{place, plain_view}

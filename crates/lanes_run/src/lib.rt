@@ -1,4 +1,6 @@
 // The calls of lanes of a sheet, one after the other, and the refused ones on the whole line: the part of a run that leaves lanes, capacity and view as they are.
+#![tactic(auto)]
+
 ghost use Rattle.std.specs.Prelude.{◌+◌, ◌≤◌, ◌≡◌, length};
 ghost use Rattle.limits.specs.Limits.{most_pointer};
 ghost use Rattle.line.specs.Line.{lane};

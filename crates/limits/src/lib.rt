@@ -1,4 +1,5 @@
 // The limits of a line, its book, its view and a sheet: the code's one place for each. The definitions have their own, specs/Limits; contracts hold the two to one value.
+#![tactic(auto)]
 
 // The most lanes that a line has.
 pub const MOST_LANES: usize = 128;

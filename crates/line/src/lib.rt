@@ -1,4 +1,6 @@
 // The line: its lanes with their phases, the flags, the shared pointer and the view.
+#![tactic(auto)]
+
 ghost use Rattle.std.specs.Prelude.{◌≡◌};
 ghost use Rattle.line.specs.Line.{idle_lane, unopened};
 

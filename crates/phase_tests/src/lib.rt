@@ -1,4 +1,6 @@
 // Tests and numbers of a lane's phase, each equal to its definition.
+#![tactic(auto)]
+
 ghost use Rattle.std.specs.Prelude.{◌||◌, ◌≡◌};
 ghost use Rattle.line.specs.Line.{count_in, flag_for, has_turn, holds_whole, is_busy, is_gathered, is_idle, is_idle_or_gathered, is_whole_book, is_writing, left_in, phase_number, place_in};
 

@@ -1,4 +1,6 @@
 // A refused call: the line as it was handed in, and the number of the reason.
+#![tactic(auto)]
+
 ghost use Rattle.std.specs.Prelude.{◌≡◌};
 ghost use Rattle.refuse.specs.Refused.{refused_outcome};
 

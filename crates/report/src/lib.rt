@@ -1,4 +1,6 @@
 // The report of waiting: a row of numbers for each lane that a line can have and one for all lanes, the report of no waiting, and the mean of a row.
+#![tactic(auto)]
+
 ghost use Rattle.std.specs.Prelude.{◌||◌, ◌≡◌, ltb};
 ghost use Rattle.limits.specs.Limits.{most_sheet};
 ghost use Rattle.lists.specs.Lists.{some_pass};

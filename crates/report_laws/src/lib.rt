@@ -1,1 +1,2 @@
 // The laws of the report of waiting over runs; no functions.
+#![tactic(auto)]

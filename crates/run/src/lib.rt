@@ -1,4 +1,6 @@
 // The run of a sheet: its events one after the other on one line and one lent book, with the printed lines in a lent buffer.
+#![tactic(auto)]
+
 ghost use Rattle.std.specs.Prelude.{◌+◌, ◌≤◌, false, true, ◌≡◌, length};
 ghost use Rattle.line.specs.Sound.{sound};
 ghost use Rattle.steps.specs.Meets.{state_of};

@@ -1,4 +1,6 @@
 // A lane's call of a sheet: its fields read, decided, and the line of its answer stored. Each kind has a small function with one caller, so that it is inlined there.
+#![tactic(auto)]
+
 ghost use Rattle.std.specs.Prelude.{◌+◌, ◌≤◌, false, true, ◌≡◌, length};
 ghost use Rattle.lists.specs.Lists.{bit};
 ghost use Rattle.limits.specs.Limits.{most_lanes};

@@ -1,4 +1,6 @@
 // The state of a line in lent bytes: stored, told from other bytes, and read back. The layout is in specs/StateBytes.
+#![tactic(auto)]
+
 ghost use Rattle.std.specs.Prelude.{◌≡◌, ◌≤◌, length};
 ghost use Rattle.std.proofs.lemmas.List.Edits.{sets};
 ghost use Rattle.state_bytes.specs.StateBytes.{is_state, line_in, state_bytes, state_length};

@@ -1,4 +1,6 @@
 // One call over the state bytes of a line, and what is asked of them; none of the public functions requires anything.
+#![tactic(auto)]
+
 ghost use Rattle.std.specs.Prelude.{◌≡◌, ◌≤◌, cond, length};
 ghost use Rattle.std.proofs.lemmas.List.Edits.{sets};
 ghost use Rattle.state_bytes.specs.StateBytes.{state_bytes, state_length};

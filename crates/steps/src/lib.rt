@@ -1,4 +1,6 @@
 // The answers to calls. What each call does is defined in specs/; the functions are in the crates above.
+#![tactic(auto)]
+
 use line::Line;
 use view::{Place, Position};
 use waitlist::Wakes;

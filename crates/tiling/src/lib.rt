@@ -1,4 +1,6 @@
 // What a position needs of a view, made once when the view is set: three numbers, and a table of the records that the view shows of a tile.
+#![tactic(auto)]
+
 ghost use Rattle.std.specs.Prelude.{◌≡◌, ◌+◌, ◌≤◌, ◌<◌};
 ghost use Rattle.std.proofs.lemmas.List.Edits.{sets};
 ghost use Rattle.limits.specs.Limits.{most_extent};

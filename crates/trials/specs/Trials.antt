@@ -1,4 +1,4 @@
--- Lists of calls to try demand 3 on, by trials/Trials: long_told, long_not_yet, long_woken, within_126_fails, mixed_places, mixed_lanes, and, for a search from lane 0, from-zero-fails.
+-- Lists of calls to try demand 3 on, by trials/Trials: long_told, long_not_yet, long_woken, within_126_fails, mixed_places, mixed_lanes, and, for a search from lane 0, from_zero_fails.
 use Rattle.std.specs.Prelude.{ℕ, zero, suc, ◌+◌, List, [], ◌∷◌, ◌++◌, replicate}
 use Rattle.waitlist.specs.NextLane.{first_raised}
 use Rattle.waitlist.specs.declared.Wakes.{Wakes}

@@ -1,4 +1,6 @@
 // The version of the library, which its header and its programs tell. Every landing that a user can see raises it.
+#![tactic(auto)]
+
 ghost use Rattle.std.specs.Prelude.{◌≡◌};
 ghost use Rattle.version.specs.Version.{version_line, version_number};
 

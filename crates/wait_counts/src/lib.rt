@@ -1,4 +1,6 @@
 // What a run counts of waiting, in lent numbers: an answer counted, and at the run's end all counts joined to a report.
+#![tactic(auto)]
+
 ghost use Rattle.std.specs.Prelude.{◌+◌, ◌≤◌, ◌<◌, max, cond, ◌≡◌, eqb};
 ghost use Rattle.limits.specs.Limits.{most_lanes, most_sheet};
 ghost use Rattle.report.specs.Rows.{joined};
