@@ -11,7 +11,7 @@ use line::Line;
 use notation_mistake::is_notation;
 use report::Report;
 use report_text::print_table;
-use run::{Reported, run_reported};
+use run::run_reported;
 use run_text::MOST_LAST;
 use standard_io::{Input, has_argument, is_word};
 use std::env::Env;
@@ -85,13 +85,9 @@ fn tell_long(rt: &HostRuntime, name: &[u8], bytes: &[u8]) {
 // Runs a sheet from an unopened line on a book of 65,536 zeros; the text of the run, for which a buffer with room is lent, is not printed.
 fn run_in(sheet: &[u8], text: &mut [u8], report: Report) -> Report {
     let mut book = io::large_buffer();
-    let unopened = Line::unopened();
-    let Reported {
-        line: _,
-        printed: _,
-        report,
-    } = run_reported(unopened, &mut book, sheet, text, report);
-    report
+    let line = Line::unopened();
+    let ran = run_reported(line, &mut book, sheet, text, report);
+    ran.report
 }
 
 // The same with a buffer of its own, made in place: as a function's result it would lie on the stack more than once where nothing is inlined.

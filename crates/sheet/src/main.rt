@@ -10,8 +10,8 @@ use limits::MOST_SHEET;
 use notation::{MOST_NOTATION, Parsed};
 use standard_io::{Input, has_argument, is_word};
 use std::io::Error;
+use trace_text::Tracing;
 use trace_text::summary::put_end;
-use trace_text::{Traced, Tracing};
 
 // The bytes of the longest text: a byte has two digits.
 const MOST_BYTES: usize = MOST_NOTATION / 2;
@@ -118,9 +118,9 @@ fn print_events(rt: &HostRuntime, sheet: &[u8]) -> bool {
     let mut at: usize = 0;
     let mut count: u64 = 0;
     loop {
-        let (event, next) = match decode::read_event(sheet, Cursor { at }) {
-            Reading::Event { event, next } => (event, next),
-            ended => return print_end(rt, count, at, ended),
+        let reading = decode::read_event(sheet, Cursor { at });
+        let Reading::Event { event, next } = reading else {
+            return print_end(rt, count, at, reading);
         };
         if !print_event(rt, count, event) {
             return true;
@@ -134,10 +134,9 @@ fn print_events(rt: &HostRuntime, sheet: &[u8]) -> bool {
 fn print_trace_end(rt: &HostRuntime, out: &mut [u8], tracing: Tracing, bytes: usize) -> bool
     requires { most_end ≤ length out.old }
 {
-    let at = tracing.at;
     let end = put_end(out, tracing);
     print_first(rt, out, end);
-    at == bytes
+    tracing.at == bytes
 }
 
 // The trace of a sheet's run, a line an event; true where all its bytes are events, or a line could not be written.
@@ -150,14 +149,14 @@ fn print_trace(rt: &HostRuntime, sheet: &[u8]) -> bool {
     }
     let mut tracing = trace_text::start();
     loop {
-        let Traced { next, length, more } = trace_text::step(tracing, &mut book, sheet, &mut out);
-        if !print_first(rt, &out, length) {
+        let traced = trace_text::step(tracing, &mut book, sheet, &mut out);
+        if !print_first(rt, &out, traced.length) {
             return true;
         }
-        if !more {
-            return print_trace_end(rt, &mut out, next, sheet.len());
+        tracing = traced.next;
+        if !traced.more {
+            return print_trace_end(rt, &mut out, tracing, sheet.len());
         }
-        tracing = next;
     }
 }
 
