@@ -1,5 +1,5 @@
 -- Places as bits of words: how a test of places goes by the words, and what a loop that marks places a word at a time needs.
-use Prim.Native.Nat.{ℕ, zero, suc, ◌+◌, ◌-◌, ◌*◌, ◌/◌, ◌%◌, ◌≤◌, ◌<◌, min}
+use Prim.Native.Nat.{ℕ, zero, suc, ◌+◌, ◌-◌, ◌*◌, ◌/◌, ◌%◌, ◌≤◌, ◌<◌, max, min}
 use mathlib.Core.Path.{◌≡◌, refl, sym, ap, ◌∙◌}
 use mathlib.Core.Logic.{◌⊎◌, inl, inr, ⊎_elim}
 use mathlib.Core.Bool.{Bool, true, false, and_assoc, and-true, or-true, ◌&&◌, ◌||◌}
@@ -168,3 +168,46 @@ module _ (before words : List ℕ) (first count k left n mask : ℕ) (inv : Mark
         marked = λ j.
             marks j ∙ rw (inv.marked j, and_assoc (is_free before j) (is_outside first k j) (is_outside k (k + n) j), outside_join first k (k + n) j inv.passed (omega arith));
       }
+
+-- ---- the loop over the words of some places
+-- where the loop stands before word i: at that word's first place, or at the first place of all, but never past the last
+abbrev pub reached : ℕ → ℕ → ℕ → ℕ
+reached first count i = min (first + count) (max first (64 * i))
+
+abbrev pub MarkingWords : List ℕ → List ℕ → ℕ → ℕ → ℕ → Type 0
+MarkingWords before words first count i = Marking before words first count (reached first count i) (first + count - reached first count i)
+
+pub words_start : (words : List ℕ) (first count : ℕ) → MarkingWords words words first count (first / 64)
+words_start words first count =
+    let at : reached first count (first / 64) ≡ first = omega arith in
+    let left : first + count - first ≡ count = omega arith in
+    rw (at, left) (marking_start words first count)
+
+pub words_end : (before words : List ℕ) (first count i : ℕ) → MarkingWords before words first count i → first + count ≤ 64 * i → Marks before words first count true
+words_end before words first count i inv h = marking_end before words first count (reached first count i) (first + count - reached first count i) inv (omega arith)
+
+pub none_marked_of : (words : List ℕ) (first count : ℕ) → count ≡ 0 → Marks words words first count true
+none_marked_of words first count none = marking_end words words first count first count (marking_start words first count) (omega arith)
+
+module _ (before words : List ℕ) (first count i from to mask : ℕ) (inv : MarkingWords before words first count i) (some : 0 < count) (low : first / 64 ≤ i) (high : 64 * i < first + count) (from_is : from ≡ max first (64 * i)) (to-is : to ≡ min (first + count) (64 * i + 64)) (mask_is : mask ≡ mask_of (from % 64) (to - from)) where
+  at : from ≡ reached first count i
+  at = omega arith
+
+  word_is : from / 64 ≡ i
+  word_is = omega arith
+
+  part_is : to - from ≡ min (64 - from % 64) (first + count - from)
+  part_is = omega arith
+
+  moved : Marking before words first count from (first + count - from)
+  moved = rw at inv
+
+  pub words_stop : (bit_and (get_or words i 0) mask ≡ 0 → ⊥) → Marks before words first count false
+  words_stop taken = marking_stop before words first count from (first + count - from) (to - from) mask moved part_is mask_is (λ e. taken (rw word_is at e))
+
+  pub words_more : i < length before → bit_and (get_or words i 0) mask ≡ 0 → MarkingWords before (set words i (bit_or (get_or words i 0) mask)) first count (i + 1)
+  words_more room clear =
+      let more = marking_more before words first count from (first + count - from) (to - from) mask moved part_is mask_is (rw word_is room) (rw word_is clear) in
+      let next : from + (to - from) ≡ reached first count (i + 1) = omega arith in
+      let left : first + count - from - (to - from) ≡ first + count - reached first count (i + 1) = omega arith in
+      rw (word_is, next, left) at more

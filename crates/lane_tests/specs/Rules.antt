@@ -1,20 +1,12 @@
--- The rules of a single lane by their names, and the counts over all lanes. Tied to `sound` by the contract of soundness::is_sound, to `call_event` by ordered_calls/Steps: enter_step_lem.
+-- The counts over all lanes. Tied to `sound` by the contract of soundness::is_sound, to `call_event` by ordered_calls/Steps: enter_step_lem.
 use Rattle.std.specs.Prelude.{Bool, not, List, eqb}
 use Rattle.lists.specs.Lists.{count_pass}
-use Rattle.line.specs.Line.{flag_for, has_turn, is_gathered, is_idle, is_idle_or_gathered, on}
-use Rattle.line.specs.Sound.{gathered_total, region_ok, value_ok}
+use Rattle.line.specs.Line.{flag_for, has_turn, is_gathered, is_idle, on}
+use Rattle.line.specs.Sound.{gathered_total}
 use Rattle.line.specs.declared.Phase.{Phase}
 use Rattle.line.specs.declared.Lane.{Lane}
-use Rattle.line.specs.declared.Line.{Line}
-use Rattle.lane_tests.specs.declared.rules.Rule.{Rule}
 use Rattle.lane_tests.specs.declared.tallies.LaneCounts.{LaneCounts}
 use Rattle.lane_tests.specs.declared.tallies.Tally.{Tally}
-
-abbrev pub rule_of : Rule → Line → Phase → Bool
-rule_of Rule.Idle l x = is_idle x
-rule_of Rule.IdleOrGathered l x = is_idle_or_gathered x
-rule_of Rule.Value l x = value_ok l.pointer x
-rule_of Rule.Region l x = region_ok l x
 
 abbrev pub flag_is_one : Phase → Bool
 flag_is_one x = eqb 1 (flag_for x)

@@ -1,5 +1,5 @@
 // Whether the regions of all lanes share no place: their places are marked lane by lane, as bits of words, and no place is marked twice.
-ghost use Rattle.std.specs.Prelude.{◌+◌, ◌-◌, ◌%◌, ◌≤◌, ◌<◌, min, ◌≡◌, true, length};
+ghost use Rattle.std.specs.Prelude.{◌+◌, ◌≤◌, ◌<◌, ◌≡◌, true, length};
 ghost use Rattle.lists.specs.Lists.{all_pass, some_pass, pairwise};
 ghost use Rattle.limits.specs.Limits.{most_pointer};
 ghost use Rattle.line.specs.Line.{is_busy, on};
@@ -13,6 +13,7 @@ use line::Lane;
 const WORDS: usize = 1024;
 
 // The word of which `count` bits from bit `low` upwards are 1.
+#[tactic(auto, using(crate::proofs::Bits::mask_shifted))]
 fn mask_of(low: usize, count: usize) -> u64
     requires some_bits { 0 < count }
     requires in_word { low + count ≤ 64 }
@@ -21,55 +22,42 @@ fn mask_of(low: usize, count: usize) -> u64
     (u64::MAX >> (64 - count)) << low
 }
 
-// How many of `left` places from place k upwards stand in one word.
-fn in_word(k: usize, left: usize) -> usize
-    ensures { result ≡ min (64 - k % 64) left }
-{
-    let room = 64 - k % 64;
-    if room < left {
-        return room;
-    }
-    left
-}
-
 // Marks `count` places from place `first` upwards, a word at a time; stops where one of them is marked.
+#[tactic(auto, using(crate::proofs::Places::words_start, crate::proofs::Places::words_end, crate::proofs::Places::words_stop, crate::proofs::Places::none_marked_of))]
 fn mark_places(words: &mut [u64; WORDS], first: usize, count: usize) -> bool
     requires whole { length words.old ≡ 1024 }
     requires in_range { 0 < count → first + count ≤ most_pointer }
     ensures { Marks words.old words.new first count result }
 {
-    let mut k = first;
-    let mut left = count;
-    while 0 < left {
-        let n = in_word(k, left);
-        let mask = mask_of(k % 64, n);
-        let word = words[k / 64];
-        if word & mask != 0 {
+    if count == 0 {
+        return true;
+    }
+    let end = first + count;
+    for i in first / 64..end.div_ceil(64) {
+        let from = first.max(64 * i);
+        let to = end.min(64 * i + 64);
+        let mask = mask_of(from % 64, to - from);
+        if words[i] & mask != 0 {
             return false;
         }
-        words[k / 64] = word | mask;
-        k += n;
-        left -= n;
+        words[i] |= mask;
     }
     true
 }
 
 // Marks the regions of all lanes; stops at one of which a place is marked. A lane that is not busy has no record left.
+#[tactic(auto, using(crate::proofs::Apart::region_low, crate::proofs::Apart::regions_end, crate::proofs::Apart::regions_more, crate::proofs::Apart::regions_stop, lists::proofs::Counts::all_get_d))]
 fn mark_lanes(words: &mut [u64; WORDS], lane: [Lane; MOST_LANES]) -> bool
     requires whole { length words.old ≡ 1024 }
     requires regions_within { all_pass (on region_within) lane ≡ true }
     ensures { result ≡ regions_free words.old lane }
 {
-    let mut i: usize = 0;
-    while i < MOST_LANES {
-        let l = lane[i];
-        let x = l.phase;
-        let place = phase_tests::place_in(x);
-        let left = phase_tests::left_in(x);
-        if !mark_places(words, place.0 as usize, left as usize) {
+    for l in &lane {
+        let place = phase_tests::place_in(l.phase);
+        let left = phase_tests::left_in(l.phase);
+        if !mark_places(words, place.0 as usize, usize::from(left)) {
             return false;
         }
-        i += 1;
     }
     true
 }
@@ -78,19 +66,11 @@ fn mark_lanes(words: &mut [u64; WORDS], lane: [Lane; MOST_LANES]) -> bool
 fn any_busy(lane: [Lane; MOST_LANES]) -> bool
     ensures { result ≡ some_pass (on is_busy) lane }
 {
-    let mut i: usize = 0;
-    while i < MOST_LANES {
-        let l = lane[i];
-        let phase = l.phase;
-        if phase_tests::is_busy(phase) {
-            return true;
-        }
-        i += 1;
-    }
-    false
+    lane.iter().any(|l| phase_tests::is_busy(l.phase))
 }
 
 // ".. and share no place". Where no lane is busy no words are made.
+#[tactic(auto, using(crate::proofs::Apart::none_busy))]
 pub fn regions_apart(lane: [Lane; MOST_LANES]) -> bool
     requires { all_pass (on region_within) lane ≡ true }
     ensures { result ≡ pairwise apart_lanes lane }

@@ -8,7 +8,7 @@ use limits::MOST_LANES;
 use view::{Place, View};
 
 // What a lane wants the book for.
-#[derive(Clone, Copy)]
+#[derive(Clone, Copy, Debug, PartialEq, Eq)]
 pub enum Purpose {
     SharedWrite,
     SharedRead,
@@ -16,7 +16,7 @@ pub enum Purpose {
 }
 
 // A lane's phase; a busy lane has a region: the records left and then the next place, in which order a lane takes 8 bytes.
-#[derive(Clone, Copy)]
+#[derive(Clone, Copy, Debug, PartialEq, Eq)]
 pub enum Phase {
     Idle,
     Waiting(Purpose),
@@ -28,13 +28,13 @@ pub enum Phase {
 }
 
 // A lane (a process of source document 001).
-#[derive(Clone, Copy)]
+#[derive(Clone, Copy, Debug, PartialEq, Eq)]
 pub struct Lane {
     pub phase: Phase,
 }
 
 // The line: N in `lanes`, capacity and size in bytes, and an entry of `lane` and of `flag` for each lane that there could be.
-#[derive(Clone, Copy)]
+#[derive(Clone, Copy, Debug, PartialEq, Eq)]
 pub struct Line {
     pub lanes: u8,
     pub capacity: u32,
@@ -59,18 +59,14 @@ impl Line {
     pub fn unopened() -> Line
         ensures { result ≡ unopened }
     {
-        let view = View::PLAIN;
-        let idle = Lane::idle();
-        let lane = [idle; MOST_LANES];
-        let flag = [0u8; MOST_LANES];
         Line {
             lanes: 0,
             capacity: 0,
             size: 0,
             pointer: Place(0),
-            view,
-            lane,
-            flag,
+            view: View::PLAIN,
+            lane: [Lane::idle(); MOST_LANES],
+            flag: [0; MOST_LANES],
         }
     }
 }

@@ -1,19 +1,19 @@
 -- What flags that are those of the phases give, the regions of a line whose pointer is low enough, and the test of the plain view.
-use Prim.Native.Nat.{ℕ, ◌≤◌, ◌<◌}
-use mathlib.Core.Path.{◌≡◌, refl, sym, ◌∙◌}
-use mathlib.Core.Bool.{Bool, true, false, ◌&&◌}
+use Prim.Native.Nat.{ℕ, zero, suc, ◌≤◌}
+use mathlib.Core.Path.{◌≡◌, refl, sym, ap, ◌∙◌}
+use mathlib.Core.Bool.{Bool, true, false, and-true, ◌&&◌}
 use mathlib.Core.List.{List, [], ◌∷◌, map}
-use native.Mathlib.Nat.{not-suc-le-zero}
 use native.Mathlib.Omega.{arith}
-use lib.ListN.{drop, get_or, length, take}
+use lib.ListN.{drop, length, replicate}
 use lib.Dec.{eqb, leb, ltb}
+use lib.Pointwise.{pointwise}
 use borrow.Author.Tests.{eqb-true, le-leb, leb-true}
 use Rattle.lists.specs.Lists.{all_pass, some_pass, count_pass, every, implies}
 use Rattle.lists.proofs.Counts.{all_mono, same_is}
 use Rattle.lists.proofs.Maps.{all_map, any_count, any_map, drop_map}
 use Rattle.lists.proofs.Tests.{and_both, by_test, every_nth, implies_from, implies_use}
 use Rattle.limits.specs.Limits.{most_pointer}
-use Rattle.view.specs.View.{block, fits, in_order, is_plain, is_plain_blocks, is_unused, view_ok}
+use Rattle.view.specs.View.{block, fits, is_plain, is_plain_blocks, is_unused}
 use Rattle.view.specs.declared.Block.{Block}
 use Rattle.view.specs.declared.View.{View}
 use Rattle.line.specs.Line.{flag_for, is_busy, is_idle, is_writing, left_in, on, place_in}
@@ -70,21 +70,22 @@ pub regions_within : (l : Line) → l.pointer.0 ≤ most_pointer → all_pass (o
 regions_within l h e = all_mono (on (region_ok l)) (on region_within) (λ y. region_within_lem l h y.phase) l.lane e
 
 -- ---- the plain view
-abbrev pub first_block : List Block → Block
-first_block bs = get_or bs 0 (block 0 0)
+-- two blocks are equal as their derived equality tells it
+abbrev pub same_block : Block → Block → Bool
+same_block a b = eqb a.start b.start && eqb a.length b.length
 
--- the test of the blocks, by the first one and the others
-pub plain_blocks : (bs : List Block) → 0 < length bs → is_plain_blocks bs ≡ (eqb (first_block bs).start 0 && eqb (first_block bs).length 1 && all_pass is_unused (drop 1 bs))
-plain_blocks [] h = absurd (not-suc-le-zero h)
-plain_blocks (b ∷ bs) h = refl
+unused_blocks : (bs : List Block) (n : ℕ) → length bs ≡ n → pointwise same_block bs (replicate n (block 0 0)) ≡ all_pass is_unused bs
+unused_blocks [] zero h = refl
+unused_blocks [] (suc n) h = absurd (omega arith)
+unused_blocks (b ∷ bs) zero h = absurd (omega arith)
+unused_blocks (b ∷ bs) (suc n) h = ap (λ t. is_unused b && t) (unused_blocks bs n (omega arith))
 
-first_in_order : (bs : List Block) → 0 < length bs → (first_block bs).start ≡ 0 → (first_block bs).length ≡ 1 → in_order 1 0 (take 1 bs) ≡ true
-unfolding in_order
-first_in_order [] h start size = absurd (not-suc-le-zero h)
-first_in_order (b ∷ bs) h start size = rw (start, size)
+-- the equality of the blocks with those of the plain view is the test of them
+pub plain_blocks : (bs : List Block) → length bs ≡ 8 → pointwise same_block bs (block 0 1 ∷ replicate 7 (block 0 0)) ≡ is_plain_blocks bs
+plain_blocks [] h = absurd (omega arith)
+plain_blocks (b ∷ bs) h = ap (λ t. eqb b.start 0 && eqb b.length 1 && t) (unused_blocks bs 7 (omega arith))
 
--- with the numbers of the plain view the rules of a view leave that the other blocks are unused
-pub plain_ok : (v : View) → 0 < length v.block → v.displacement ≡ 0 → v.extent ≡ 1 → v.used ≡ 1 → (first_block v.block).start ≡ 0 → (first_block v.block).length ≡ 1 → view_ok 0 v ≡ is_plain v
-unfolding view_ok
-plain_ok v h displacement extent used start size =
-    rw (displacement, extent, used, first_in_order v.block h start size, plain_blocks v.block h, start, size)
+-- and that of the views the test of the view
+pub plain_view_is : (v : View) → length v.block ≡ 8
+    → (eqb v.displacement 0 && (eqb v.extent 1 && (eqb v.used 1 && pointwise same_block v.block (block 0 1 ∷ replicate 7 (block 0 0))))) ≡ is_plain v
+plain_view_is v h = rw (plain_blocks v.block h, and-true (is_plain_blocks v.block))

@@ -5,96 +5,42 @@ ghost use Rattle.line.specs.Sound.{numbers_ok, open_numbers, unopened_numbers};
 
 use limits::{LEAST_CAPACITY, MOST_CAPACITY, MOST_LANES, MOST_POINTER};
 use line::Line;
-use view::View;
+use view::{Place, View};
 
-// A number of lanes as an index.
-pub fn index(lanes: u8) -> usize
-    ensures { result ≡ lanes }
-{
-    lanes as usize
-}
-
-// A number of bytes as a length.
-fn length(bytes: u32) -> usize
-    ensures { result ≡ bytes }
-{
-    bytes as usize
-}
-
-// Whether the view is the plain one. With these numbers the rules of a view leave that the other blocks are unused.
+// Whether the view is the plain one.
 fn is_plain(view: View) -> bool
     ensures { result ≡ is_plain view }
 {
-    let block = view.block;
-    let first = block[0];
-    if view.displacement != 0 {
-        return false;
-    }
-    if view.extent != 1 {
-        return false;
-    }
-    if view.used != 1 {
-        return false;
-    }
-    if first.start != 0 {
-        return false;
-    }
-    if first.length != 1 {
-        return false;
-    }
-    view.is_ok(0)
+    view == View::PLAIN
 }
 
 // "An unopened line has N, capacity, size and pointer 0, and the plain view".
 fn unopened_numbers(line: Line) -> bool
     ensures { result ≡ unopened_numbers line }
 {
-    let pointer = line.pointer;
-    let view = line.view;
-    if line.capacity != 0 {
-        return false;
-    }
-    if line.size != 0 {
-        return false;
-    }
-    if pointer.0 != 0 {
-        return false;
-    }
-    is_plain(view)
+    line.capacity == 0 && line.size == 0 && line.pointer == Place(0) && is_plain(line.view)
 }
 
 // "N, capacity, size (at most the capacity), pointer and view are in range and the buffer holds the capacity".
 fn open_numbers(line: Line, buffer: usize) -> bool
     ensures { result ≡ open_numbers line buffer }
 {
-    let pointer = line.pointer;
-    let view = line.view;
-    if MOST_LANES < index(line.lanes) {
-        return false;
-    }
-    if line.capacity < LEAST_CAPACITY {
-        return false;
-    }
-    if MOST_CAPACITY < line.capacity {
-        return false;
-    }
-    if line.capacity < line.size {
-        return false;
-    }
-    if MOST_POINTER < pointer.0 {
-        return false;
-    }
-    if !view.is_ok(line.capacity) {
-        return false;
-    }
-    length(line.capacity) <= buffer
+    usize::from(line.lanes) <= MOST_LANES
+        && LEAST_CAPACITY <= line.capacity
+        && line.capacity <= MOST_CAPACITY
+        && line.size <= line.capacity
+        && line.pointer.0 <= MOST_POINTER
+        && line.view.is_ok(line.capacity)
+        && line.capacity as usize <= buffer
 }
 
+// The numbers of an unopened line, and of one that is open.
 pub fn numbers_ok(line: Line, buffer: usize) -> bool
     ensures { result ≡ numbers_ok line buffer }
 {
     if line.lanes == 0 {
-        return unopened_numbers(line);
+        unopened_numbers(line)
+    } else {
+        open_numbers(line, buffer)
     }
-    open_numbers(line, buffer)
 }

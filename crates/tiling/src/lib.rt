@@ -14,7 +14,7 @@ use view::{Block, Place, Position, View};
 pub const MOST_RECORDS: usize = MOST_EXTENT as usize;
 
 // What a position needs of a view, but for the records that it shows of a tile, which stand beside it in a table.
-#[derive(Clone, Copy)]
+#[derive(Clone, Copy, Debug, PartialEq, Eq)]
 pub struct Tiling {
     pub displacement: u32,
     pub extent: u16,
@@ -34,24 +34,24 @@ impl Tiling {
     }
 
     // The position of the record with this number among those shown. Where a tile shows one record, as in the plain view, nothing is divided.
+    #[tactic(auto, using(crate::proofs::Laws::one_shown, crate::proofs::Walk::within_table, view::proofs::Walk::tile_most), unfolding(crate::specs::Tiling::table_position))]
     pub fn position(self, records: &[u16; MOST_RECORDS], number: u64) -> Position
         requires { Shows self × (number < 8589934592) }
         ensures { TablePositioned self records.now (place number) result }
     {
-        let shown = self.shown as u64;
-        let displacement = self.displacement as u64;
-        let extent = self.extent as u64;
+        let displacement = u64::from(self.displacement);
+        let extent = u64::from(self.extent);
+        let shown = u64::from(self.shown);
         if shown == 1 {
-            let first = wide(records[0]);
-            return Position(displacement + 8 * (number * extent + first));
+            return Position(displacement + 8 * (number * extent + u64::from(records[0])));
         }
         let tile = number / shown;
-        let within = (number % shown) as usize;
-        let in_tile = wide(records[within]);
-        Position(displacement + 8 * (tile * extent + in_tile))
+        let record = records[(number % shown) as usize];
+        Position(displacement + 8 * (tile * extent + u64::from(record)))
     }
 
     // Whether a run of records from a place ends at or below the capacity.
+    #[tactic(auto, using(crate::proofs::Laws::table_last))]
     pub fn fits(
         self,
         records: &[u16; MOST_RECORDS],
@@ -65,48 +65,33 @@ impl Tiling {
         if count == 0 {
             return true;
         }
-        let last = place.0 as u64 + (count as u64 - 1);
-        let position = self.position(records, last);
-        position.0 + 8 <= capacity as u64
+        let last = u64::from(place.0) + u64::from(count - 1);
+        self.position(records, last).0 + 8 <= u64::from(capacity)
     }
 }
 
-// An entry of a table as a number to count with.
-fn wide(x: u16) -> u64
-    ensures { (result ≡ x) × (result < 65536) }
-{
-    x as u64
-}
-
 // The records of a block, one after the other, stored from an index of the table on.
+#[tactic(auto, using(crate::proofs::Walk::store_more, crate::proofs::Walk::store_end))]
 fn store_block(records: &mut [u16; MOST_RECORDS], at: usize, block: Block)
     requires { (at + block.length ≤ most_extent) × (block.start + block.length ≤ most_extent) }
     ensures { records.new ≡ sets records.old at (records_from block.start block.length) }
 {
-    let start = block.start;
-    let length = block.length;
-    let mut i: u16 = 0;
-    while i < length {
-        records[at + i as usize] = start + i;
-        i += 1;
+    for i in 0..block.length {
+        records[at + usize::from(i)] = block.start + i;
     }
 }
 
 // The records that a view shows of a tile, in order: the table; zero past them.
+#[tactic(auto, using(crate::proofs::Walk::lengths_next, crate::proofs::Walk::ends_here, lists::proofs::Parts::length_unmapped), unfolding(crate::specs::Tiling::records_of, crate::specs::Tiling::shown_records))]
 pub fn records_of(view: View) -> [u16; MOST_RECORDS]
     requires { Tileable view }
     ensures { result ≡ records_of view }
 {
-    let block = view.block;
-    let used = view.used as usize;
-    let mut records = [0u16; MOST_RECORDS];
-    let mut at: usize = 0;
-    let mut i: usize = 0;
-    while i < used {
-        let b = block[i];
-        store_block(&mut records, at, b);
-        at += b.length as usize;
-        i += 1;
+    let mut records = [0; MOST_RECORDS];
+    let mut at = 0;
+    for b in &view.block[..usize::from(view.used)] {
+        store_block(&mut records, at, *b);
+        at += usize::from(b.length);
     }
     records
 }

@@ -5,7 +5,6 @@ ghost use Rattle.limits.specs.Limits.{most_lanes};
 ghost use Rattle.waitlist.specs.NextLane.{first_raised, or_else};
 ghost use Rattle.waitlist.specs.Words.{lane_or, word};
 
-use super::least;
 use limits::MOST_LANES;
 
 // The word of lane i's flag alone: a flag is up where it is 1 and no other number.
@@ -14,14 +13,11 @@ fn word_1(flags: &[u8; MOST_LANES], i: usize) -> u32
     requires { i + 1 ≤ most_lanes }
     ensures { result ≡ word flags.now i 1 }
 {
-    if flags[i] == 1 {
-        return 1;
-    }
-    0
+    u32::from(flags[i] == 1)
 }
 
 // The words of 2, 4, 8 and 16 flags from lane i upwards, each put together from two halves, the higher one first: of this form the compiler makes three
-// instructions for 16 flags.
+// instructions for 16 flags, of a loop over them some two dozen; so these are four functions and not one.
 fn word_2(flags: &[u8; MOST_LANES], i: usize) -> u32
     requires { i + 2 ≤ most_lanes }
     ensures { result ≡ word flags.now i 2 }
@@ -56,11 +52,9 @@ fn gather(flags: &[u8; MOST_LANES], first: usize, sixteens: usize) -> u64
     requires in_row { first + 16 * sixteens ≤ most_lanes }
     ensures { result ≡ word flags.now first (16 * sixteens) }
 {
-    let mut gathered: u64 = 0;
-    let mut i: usize = 0;
-    while i < sixteens {
-        gathered += (word_16(flags, first + 16 * i) as u64) << (16 * i);
-        i += 1;
+    let mut gathered = 0;
+    for i in 0..sixteens {
+        gathered += u64::from(word_16(flags, first + 16 * i)) << (16 * i);
     }
     gathered
 }
@@ -72,11 +66,12 @@ fn first_in_word(flags: &[u8; MOST_LANES], start: usize) -> usize
     ensures { result ≡ start + count_trailing_zeros 64 (word flags.now start (64 - start % 64)) }
 {
     let gathered = gather(flags, start / 16 * 16, 4 - start % 64 / 16);
-    start + u64::trailing_zeros(gathered >> (start % 16)) as usize
+    start + (gathered >> (start % 16)).trailing_zeros() as usize
 }
 
 // The first flagged lane from `start` up to, and not including, `end`; where none is, the first from 0 up to `rest`; MOST_LANES where none is there either.
-// It calls itself for the next word, of which the compiler makes a loop: a word is gathered only where the one before it has no flag.
+// It calls itself for the next word, of which the compiler makes a loop: a word is gathered only where the one before it has no flag. Of one that answers an Option
+// the compiler makes no loop, and it then stands by itself, which tests/inlined refuses.
 pub fn first_raised(flags: &[u8; MOST_LANES], start: usize, end: usize, rest: usize) -> usize
     requires end_in_row { end ≤ most_lanes }
     requires rest_in_row { rest ≤ most_lanes }
@@ -88,7 +83,7 @@ pub fn first_raised(flags: &[u8; MOST_LANES], start: usize, end: usize, rest: us
         }
         return first_raised(flags, 0, rest, 0);
     }
-    let last = least(start / 64 * 64 + 64, end);
+    let last = end.min(start / 64 * 64 + 64);
     let lane = first_in_word(flags, start);
     if lane < last {
         return lane;
