@@ -1,10 +1,9 @@
 -- The kind and the lane of a call at an index of a sheet. Tied to `read_at` by call_head/Heads: headed_read, by which the event there is that of the kind, the lane and the fields past it.
-use Rattle.std.specs.Prelude.{ℕ, ◌+◌, ◌≤◌, ◌≡◌, Bool, true, false, List, [], ◌∷◌, drop, length}
+use Rattle.std.specs.Prelude.{Option, Some, None, ℕ, ◌+◌, ◌≤◌, ◌≡◌, Bool, true, List, [], ◌∷◌, drop, length}
 use Rattle.event.specs.Kinds.{field_lengths, kind_at}
-use Rattle.event.specs.ReadWrite.{read_at}
+use Rattle.event.specs.ReadWrite.{event_read, read_at}
 use Rattle.event.specs.declared.Cursor.{Cursor}
 use Rattle.event.specs.declared.Event.{Event}
-use Rattle.event.specs.declared.Reading.{Reading}
 use Rattle.decode_fields.specs.Fields.{fields_at, total, values}
 use Rattle.scopes.specs.Scope.{scope_of}
 use Rattle.scopes.specs.declared.LaneCall.{LaneCall}
@@ -26,8 +25,8 @@ pub record Headed (sheet : List ℕ) (at : ℕ) (h : Head) : Type 0 where
 
 -- an event at an index, if there is one, is no call of a lane, of the kinds 02 to 09
 abbrev pub NoLane : List ℕ → ℕ → Type 0
-NoLane sheet at = (e : Event) (next : Cursor) (lane : ℕ) (call : LaneCall) → read_at sheet at ≡ Reading.Event e next → scope_of e ≡ Scope.Lane lane call → ⊥
+NoLane sheet at = (e : Event) (next : Cursor) (lane : ℕ) (call : LaneCall) → read_at sheet at ≡ event_read e next → scope_of e ≡ Scope.Lane lane call → ⊥
 
-pub record HeadMeets (sheet : List ℕ) (at : ℕ) (h : Head) : Type 0 where
-  pub call : h.whole ≡ true → Headed sheet at h
-  pub other : h.whole ≡ false → NoLane sheet at
+pub record HeadMeets (sheet : List ℕ) (at : ℕ) (r : Option Head) : Type 0 where
+  pub call : (h : Head) → r ≡ Some h → Headed sheet at h
+  pub other : r ≡ None → NoLane sheet at

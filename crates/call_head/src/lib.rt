@@ -1,31 +1,18 @@
 // The kind and the lane of a call at an index of a sheet, and whether the sheet has its body whole.
 #![tactic(auto)]
 
-ghost use Rattle.std.specs.Prelude.{◌+◌, ◌≤◌, true, false, ◌≡◌, leb, length};
+ghost use Rattle.std.specs.Prelude.{◌+◌, ◌≤◌, true, ◌≡◌, leb, length};
 ghost use Rattle.decode_fields.specs.Fields.{total};
 ghost use Rattle.call_head.specs.Head.{HeadMeets, lane_kind, rest_of};
 
-use decode_fields::{Field8, read_u8};
+use decode_fields::Field;
 
-// A call's kind and lane and the index past them; `whole` where the kind names a lane and the sheet has the body whole.
-#[derive(Clone, Copy)]
+// A call's kind and lane and the index past them, where the kind names a lane and the sheet has the body whole.
+#[derive(Clone, Copy, Debug, PartialEq, Eq)]
 pub struct Head {
     pub kind: u8,
     pub lane: u8,
     pub to: usize,
-    pub whole: bool,
-}
-
-// No call that names a lane.
-fn no_head() -> Head
-    ensures { result.whole ≡ false }
-{
-    Head {
-        kind: 0,
-        lane: 0,
-        to: 0,
-        whole: false,
-    }
 }
 
 // Whether a sheet has the fields past the lane whole, from an index of it on.
@@ -36,10 +23,7 @@ fn has_rest(sheet: &[u8], to: usize, kind: u8) -> bool
     ensures { result ≡ leb (to + total (rest_of kind)) (length sheet.now) }
 {
     let left = sheet.len() - to;
-    if 12 <= left {
-        return true;
-    }
-    rest_of(kind) <= left
+    12 <= left || rest_of(kind) <= left
 }
 
 // The length of the fields past the lane.
@@ -58,26 +42,21 @@ pub fn rest_of(kind: u8) -> usize
     }
 }
 
-// The kinds that name a lane are 02 to 0A.
-pub fn head_at(sheet: &[u8], at: usize) -> Head
+// The call of a lane at an index; none where the kind there names no lane, which 02 to 0A do, or the sheet ends before its body does.
+#[inline(always)]
+pub fn head_at(sheet: &[u8], at: usize) -> Option<Head>
     ensures { HeadMeets sheet.now at result }
 {
-    let Field8::Value(kind, to_lane) = read_u8(sheet, at) else {
-        return no_head();
-    };
-    let Field8::Value(lane, to) = read_u8(sheet, to_lane) else {
-        return no_head();
-    };
+    let (kind, to_lane) = u8::read(sheet, at)?;
+    let (lane, to) = u8::read(sheet, to_lane)?;
     if kind < 0x02 {
-        return no_head();
+        return None;
     }
     if 0x0A < kind {
-        return no_head();
+        return None;
     }
-    Head {
-        kind,
-        lane,
-        to,
-        whole: has_rest(sheet, to, kind),
+    if !has_rest(sheet, to, kind) {
+        return None;
     }
+    Some(Head { kind, lane, to })
 }

@@ -1,6 +1,6 @@
 -- Fields read one after the other: what was got, or that one was cut short.
 use Prim.Native.Nat.{ℕ, ◌+◌, ◌≤◌, ◌<◌}
-use mathlib.Core.Path.{◌≡◌, refl, ◌∙◌, ap}
+use mathlib.Core.Path.{◌≡◌, refl, sym, ◌∙◌, ap}
 use mathlib.Core.Bool.{Bool, true, false, cond}
 use mathlib.Core.List.{List, [], ◌∷◌, ◌++◌}
 use native.Mathlib.Omega.{arith}
@@ -90,3 +90,15 @@ cut_first {ns} {sheet} {at} ms s = record { ends = omega (arith, total_append ns
 
 pub cut_later : {ns ms vs sheet : List ℕ} {at mid : ℕ} → Got ns vs sheet at mid → Cut ms sheet mid → Cut (ns ++ ms) sheet at
 cut_later {ns} {ms} {vs} {sheet} {at} {mid} a s = record { ends = omega (arith, total_append ns ms, a.past, s.ends) }
+
+-- ---- the same of what two readers said
+pub pair_cut : (ns ms sheet : List ℕ) (at : ℕ) → short ≡ fields_at ns sheet at → short ≡ fields_at (ns ++ ms) sheet at
+pair_cut ns ms sheet at e = cut_said (cut_first ms (missed (sym e)))
+
+pub pair_cut_later : (ns ms vs sheet : List ℕ) (at mid : ℕ) → values vs mid ≡ fields_at ns sheet at → short ≡ fields_at ms sheet mid
+    → short ≡ fields_at (ns ++ ms) sheet at
+pair_cut_later ns ms vs sheet at mid e f = cut_said (cut_later (got (sym e)) (missed (sym f)))
+
+pub pair_got : (ns ms vs ws sheet : List ℕ) (at mid end : ℕ) → values vs mid ≡ fields_at ns sheet at → values ws end ≡ fields_at ms sheet mid
+    → values (vs ++ ws) end ≡ fields_at (ns ++ ms) sheet at
+pair_got ns ms vs ws sheet at mid end e f = got_said (and_then (got (sym e)) (got (sym f)))

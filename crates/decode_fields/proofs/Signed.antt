@@ -1,29 +1,23 @@
 -- The machine's signed numbers of four bytes are those of two's complement.
-use Prim.Native.Nat.{ℕ, zero, suc, ◌-◌, ◌≤◌, ◌<◌}
-use mathlib.Core.Path.{◌≡◌, refl}
-use mathlib.Core.Bool.{Bool, true, false, cond}
-use native.Mathlib.Nat.{zero-add}
+use Rattle.std.proofs.Common.{ℕ, suc, ◌-◌, ◌≡◌, ap, refl, Bool, true, false, cond}
+use Rattle.std.specs.Int.{cast_signed}
 use native.Mathlib.Omega.{arith}
 use lib.Dec.{ltb}
-use lib.IntN.{pos, negsuc, ◌-ℤ◌}
-use mir.Facts.{to_z_pos}
+use lib.IntN.{pos, negsuc}
 use mir.Syntax.{w32}
-use mir.Val.{SFits, to_z}
-use borrow.Author.Tests.{le-ltb, lt-ltb, ltb-false, ltb-true}
+use mir.Val.{SFits}
+use borrow.Author.Tests.{ltb-false, ltb-true}
+use Rattle.lists.proofs.Tests.{by_test}
 use Rattle.event.specs.BigEndian.{signed}
 
-minus_one_minus : (k : ℕ) → negsuc 0 -ℤ pos k ≡ negsuc k
-minus_one_minus zero = refl
-minus_one_minus (suc k) = rw zero-add
+pub cast_is : (n : ℕ) → cast_signed w32 n ≡ signed n
+cast_is n =
+    by_test (ltb n 2147483648)
+    (λ low. rw low)
+    (λ high. let same : ◌≡◌ {A = ℕ} (4294967296 - suc n) (4294967295 - n) = omega arith in
+    rw high (ap negsuc same))
 
-pub low_half : (n : ℕ) → n < 2147483648 → to_z w32 n ≡ signed n
-low_half n h = rw (to_z_pos w32 h, lt-ltb n 2147483648 h)
-
-pub high_half : (n : ℕ) → 2147483648 ≤ n → negsuc 0 -ℤ to_z w32 (4294967295 - n) ≡ signed n
-high_half n h =
-    let small : 4294967295 - n < 2147483648 = omega arith in
-    rw (to_z_pos w32 small, le-ltb n 2147483648 h) (minus_one_minus (4294967295 - n))
-
+-- and fit them
 pub signed_fits : (n : ℕ) → SFits w32 (signed n)
 signed_fits n = by_half (ltb n 2147483648) refl
   where

@@ -1,4 +1,5 @@
 -- From an opening, a seek or a change of view to the next, the places handed out are all from the first pointer value up to the last, in order.
+use Rattle.std.specs.Prelude.{Option, Some, None}
 use Prim.Native.Nat.{ℕ, zero, suc, ◌+◌, ◌-◌, ◌≤◌, ◌<◌}
 use mathlib.Core.Path.{◌≡◌, refl, sym, ap, ◌∙◌}
 use mathlib.Core.Bool.{Bool, true, false, cond, ◌&&◌, ◌||◌}
@@ -22,7 +23,6 @@ use Rattle.line.specs.Line.{count_in, idle_lane, is_idle_or_gathered, lane, on, 
 use Rattle.line.specs.Sound.{gathered_total}
 use Rattle.line.proofs.Phases.{numbered_is}
 use Rattle.waitlist.specs.NextLane.{next_lane}
-use Rattle.waitlist.specs.declared.Wakes.{Wakes}
 use Rattle.event.specs.Event.{given}
 use Rattle.event.specs.declared.Event.{Event}
 use Rattle.steps.specs.Answer.{said_by}
@@ -116,9 +116,9 @@ pub record Moves (x : State) (ns : List OrderedEntry) (e : Entry) (r : Result) :
   pub lanes : r.after.line.lanes ≡ x.line.lanes
   pub told : hands_out e ≡ true → value 1 e ≡ total (grants_by x.line.lanes ns e)
 
-wake_pointer : (t : Line) (w : Wakes) → (wake t w).pointer ≡ t.pointer
-wake_pointer t (Wakes.Lane i) = refl
-wake_pointer t Wakes.None = refl
+wake_pointer : (t : Line) (w : Option ℕ) → (wake t w).pointer ≡ t.pointer
+wake_pointer t (Some i) = refl
+wake_pointer t None = refl
 
 woken_count : (v : Place) (y : Phase) → count_in (woken v y) ≡ count_in y
 woken_count v y =
@@ -138,9 +138,9 @@ same_count l j r y e = set_same (on count_in) l.lane j r (lane y) idle_lane e
     set_same f (x ∷ xs) (suc j) zero a d e = refl
     set_same f (x ∷ xs) (suc j) (suc r) a d e = set_same f xs j r a d e
 
-wake_count : (t : Line) (w : Wakes) (r : ℕ) → count_in (phase_at (wake t w) r) ≡ count_in (phase_at t r)
-wake_count t (Wakes.Lane i) r = same_count t i r (woken t.pointer (phase_at t i)) (woken_count t.pointer (phase_at t i))
-wake_count t Wakes.None r = refl
+wake_count : (t : Line) (w : Option ℕ) (r : ℕ) → count_in (phase_at (wake t w) r) ≡ count_in (phase_at t r)
+wake_count t (Some i) r = same_count t i r (woken t.pointer (phase_at t i)) (woken_count t.pointer (phase_at t i))
+wake_count t None r = refl
 
 module _ (x : State) (G : GoodState x) (ns : List OrderedEntry) (C : Gathers ns x.line) where
   -- a step that hands nothing out, after which every lane has the count that it had

@@ -1,4 +1,5 @@
 -- The lists of demand 3 are all that is called: a call made with an event is the call of its bytes, and the run of a sheet is a list of calls.
+use Rattle.std.specs.Prelude.{Some, None, Ok, Err}
 use Prim.Native.Nat.{ℕ, zero, suc}
 use mathlib.Core.Path.{◌≡◌, refl, sym, ap, subst}
 use mathlib.Core.Logic.{◌⊎◌, inl, inr}
@@ -14,7 +15,8 @@ use Rattle.event.specs.Event.{given, kind_of}
 use Rattle.event.specs.ReadWrite.{read_at}
 use Rattle.event.specs.Typed.{Typed}
 use Rattle.event.specs.declared.Event.{Event}
-use Rattle.event.specs.declared.Reading.{Reading}
+use Rattle.event.specs.ReadWrite.{Reading}
+use Rattle.event.specs.Refusal.{number_of}
 use Rattle.event.proofs.ByKind.{listed_or}
 use Rattle.event.proofs.RoundTrip.{body, call_reads_back}
 use Rattle.steps.specs.State.{Result, State, fresh}
@@ -75,9 +77,9 @@ on_is_list (suc most) x sheet at G = go (read_at sheet at) refl (λ y n g. on_is
 
     go : (r : Reading) → read_at sheet at ≡ r → ((y : State) (n : ℕ) → GoodState y → IsList y (calls_from most sheet n) (run_on most y sheet n))
         → IsList x (calls_from (suc most) sheet at) (run_on (suc most) x sheet at)
-    go Reading.End q later = rw q (no_calls x)
-    go (Reading.Refused k) q later = rw q (refused_alone x (call_at sheet at) k (read_refused sheet at x ok k q))
-    go (Reading.Event e next) q later =
+    go (Ok None) q later = rw q (no_calls x)
+    go (Err k) q later = rw q (refused_alone x (call_at sheet at) (number_of k) (read_refused sheet at x ok k q))
+    go (Ok (Some (e, next))) q later =
         rw (q, goes_on x e ok (reads sheet at e next q).listed)
         (event_more x (call_at sheet at) (calls_from most sheet next.at) e _ (read_event sheet at e next q) (later (call_event x e).after next.at (keeps G (steps next_lane x (given e)))))
 

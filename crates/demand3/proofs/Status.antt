@@ -1,4 +1,5 @@
 -- How a lane stands, read off the calls and answers, is what its phase says.
+use Rattle.std.specs.Prelude.{Option, Some, None}
 use Prim.Native.Nat.{ℕ, zero, suc, ◌+◌, ◌-◌, ◌≤◌, ◌<◌}
 use mathlib.Core.Path.{◌≡◌, refl, sym, ap, ◌∙◌}
 use mathlib.Core.Bool.{true, false, cond, or-false}
@@ -19,7 +20,6 @@ use Rattle.line.specs.Line.{idle_lane, is_flagged, is_idle_or_gathered, on, phas
 use Rattle.line.specs.Line as phases
 use Rattle.line.proofs.Phases.{numbered}
 use Rattle.waitlist.specs.NextLane.{next_lane, wakes_values}
-use Rattle.waitlist.specs.declared.Wakes.{Wakes}
 use Rattle.event.specs.Event.{given}
 use Rattle.event.specs.declared.Event.{Event}
 use Rattle.steps.specs.Answer.{said_by}
@@ -106,11 +106,11 @@ module _ (x : State) (G : GoodState x) (i : ℕ) where
       → a.after.line ≡ released next_lane (lowered x.line k y q) k → status_of y ≡ off → Leaving x.line k o y q → Stood now i e a
   leaves_stand e a k o y q sn wv al yo L = record { is = go (next_of next_lane (lowered x.line k y q) k) refl }
     where
-      go : (m : Wakes) → next_of next_lane (lowered x.line k y q) k ≡ m → status_next i now e ≡ status_of (phase_at a.after.line i)
-      go Wakes.None t =
+      go : (m : Option ℕ) → next_of next_lane (lowered x.line k y q) k ≡ m → status_next i now e ≡ status_of (phase_at a.after.line i)
+      go None t =
           let w : wakes i e ≡ false = ap (some_pass (eqb i)) (wv ∙ ap wakes_values t) in
           sn ∙ rw (w, al ∙ ap (wake (lowered x.line k y q)) t, stored_stand k y L.inside, yo)
-      go (Wakes.Lane w) t =
+      go (Some w) t =
           sn ∙ elim (ℕ_discrete i w) [
             | yes z ↦ rw (names ∙ eq-eqb i w z, lines) (rw z (rw (C.was, now_woken)))
             | no z ↦ rw (names ∙ ne_eqb i w z, lines, other_phase (lowered x.line k y q) w i (woken_phase q (phase_at (lowered x.line k y q) w)) z, stored_stand k y L.inside, yo)
@@ -122,10 +122,10 @@ module _ (x : State) (G : GoodState x) (i : ℕ) where
           names : wakes i e ≡ eqb i w
           names = ap (some_pass (eqb i)) (wv ∙ ap wakes_values t) ∙ or-false (eqb i w)
 
-          lines : a.after.line ≡ wake (lowered x.line k y q) (Wakes.Lane w)
+          lines : a.after.line ≡ wake (lowered x.line k y q) (Some w)
           lines = al ∙ ap (wake (lowered x.line k y q)) t
 
-          now_woken : phase_at (wake (lowered x.line k y q) (Wakes.Lane w)) w ≡ Phase.Woken C.purpose q
+          now_woken : phase_at (wake (lowered x.line k y q) (Some w)) w ≡ Phase.Woken C.purpose q
           now_woken = woken_now x.line G.facts k o y q L w t
 
   -- ---- each step

@@ -1,4 +1,5 @@
 -- What a step does while a lane waits: nothing, or it wakes that lane, or it wakes one that is nearer to it. And a lane that does not wait.
+use Rattle.std.specs.Prelude.{Option, Some, None}
 use Prim.Native.Nat.{ℕ, ◌+◌, ◌-◌, ◌<◌}
 use mathlib.Core.Path.{◌≡◌, refl, sym, ap, ◌∙◌}
 use mathlib.Core.Logic.{◌≢◌, ◌⊎◌, inl, inr}
@@ -15,14 +16,12 @@ use Rattle.view.specs.View.{place, record_end}
 use Rattle.view.specs.declared.Place.{Place}
 use Rattle.line.specs.declared.Purpose.{Purpose}
 use Rattle.line.specs.declared.Phase.{Phase}
-use Rattle.line.specs.declared.Lane.{Lane}
 use Rattle.line.specs.declared.Line.{Line}
 use Rattle.line.specs.Line.{has_turn, idle_lane, is_flagged, is_idle, is_idle_or_gathered, is_waiting, lane, on, phase_at}
 use Rattle.line.proofs.Facts.{Facts}
 use Rattle.line.proofs.Phases.{waiting_up, numbered}
 use Rattle.waitlist.specs.Distance.{distance}
 use Rattle.waitlist.specs.NextLane.{next_lane, wakes_values}
-use Rattle.waitlist.specs.declared.Wakes.{Wakes}
 use Rattle.event.specs.Event.{given}
 use Rattle.event.specs.declared.Event.{Event}
 use Rattle.steps.specs.Answer.{said_by}
@@ -78,10 +77,10 @@ pub data Turn (x : State) (i h : ℕ) (e : Entry) (r : Result) : Type 0 where
       → has_turn (phase_at r.after.line w) ≡ true → distance x.line.lanes w i < distance x.line.lanes h i → Turn x i h e r
 
 -- the lanes that a release's values name
-woken_lane : (e : Entry) (w j : ℕ) → woken_by e ≡ wakes_values (Wakes.Lane w) → wakes j e ≡ eqb j w
+woken_lane : (e : Entry) (w j : ℕ) → woken_by e ≡ wakes_values (Some w) → wakes j e ≡ eqb j w
 woken_lane e w j q = ap (some_pass (eqb j)) q ∙ or-false (eqb j w)
 
-woken_none : (e : Entry) (j : ℕ) → woken_by e ≡ wakes_values Wakes.None → wakes j e ≡ false
+woken_none : (e : Entry) (j : ℕ) → woken_by e ≡ wakes_values None → wakes j e ≡ false
 woken_none e j q = ap (some_pass (eqb j)) q
 
 module _ (x : State) (G : GoodState x) (i h : ℕ) (wi : is_waiting (phase_at x.line i) ≡ true) (th : has_turn (phase_at x.line h) ≡ true) where
@@ -114,9 +113,9 @@ module _ (x : State) (G : GoodState x) (i h : ℕ) (wi : is_waiting (phase_at x.
       still : phase_at (lowered x.line k y q) i ≡ phase_at x.line i
       still = other_phase x.line k i y ik
 
-      go : (m : Wakes) → next_of next_lane (lowered x.line k y q) k ≡ m → Turn x i h e a
-      go Wakes.None t = absurd (alone x.line G.facts k o y q L t i inside ik (waiting_up (phase_at x.line i) wi))
-      go (Wakes.Lane w) t =
+      go : (m : Option ℕ) → next_of next_lane (lowered x.line k y q) k ≡ m → Turn x i h e a
+      go None t = absurd (alone x.line G.facts k o y q L t i inside ik (waiting_up (phase_at x.line i) wi))
+      go (Some w) t =
           elim (ℕ_discrete w i) [
             | yes z ↦ wakes_waiter re (names i ∙ eq-eqb i w (sym z)) (rw (lines, ← z, now))
             | no z ↦ nearer w re names z (ap (λ (l : Line). l.lanes) lines)
@@ -130,13 +129,13 @@ module _ (x : State) (G : GoodState x) (i h : ℕ) (wi : is_waiting (phase_at x.
           names : (j : ℕ) → wakes j e ≡ eqb j w
           names j = woken_lane e w j (wv ∙ ap wakes_values t)
 
-          lines : a.after.line ≡ wake (lowered x.line k y q) (Wakes.Lane w)
+          lines : a.after.line ≡ wake (lowered x.line k y q) (Some w)
           lines = al ∙ ap (wake (lowered x.line k y q)) t
 
-          now : phase_at (wake (lowered x.line k y q) (Wakes.Lane w)) w ≡ Phase.Woken C.purpose q
+          now : phase_at (wake (lowered x.line k y q) (Some w)) w ≡ Phase.Woken C.purpose q
           now = woken_now x.line G.facts k o y q L w t
 
-          there : (j : ℕ) → j ≢ w → phase_at (wake (lowered x.line k y q) (Wakes.Lane w)) j ≡ phase_at (lowered x.line k y q) j
+          there : (j : ℕ) → j ≢ w → phase_at (wake (lowered x.line k y q) (Some w)) j ≡ phase_at (lowered x.line k y q) j
           there j n = other_phase (lowered x.line k y q) w j (woken q (phase_at (lowered x.line k y q) w)) n
 
   -- an ordered call, a change of view or a seek needs that no flag is up
@@ -192,10 +191,10 @@ module _ (x : State) (G : GoodState x) (i : ℕ) (wi : is_waiting (phase_at x.li
       → a.after.line ≡ released next_lane (lowered x.line k y q) k → is_waiting y ≡ false → Leaving x.line k o y q → Rests i e a
   leaves_rests e a k o y q wv al yw L = go (next_of next_lane (lowered x.line k y q) k) refl
     where
-      go : (m : Wakes) → next_of next_lane (lowered x.line k y q) k ≡ m → Rests i e a
-      go Wakes.None t =
+      go : (m : Option ℕ) → next_of next_lane (lowered x.line k y q) k ≡ m → Rests i e a
+      go None t =
           record { unwoken = woken_none e i (wv ∙ ap wakes_values t); unwaiting = inr (rw (al ∙ ap (wake (lowered x.line k y q)) t) (stays k y yw)) }
-      go (Wakes.Lane w) t =
+      go (Some w) t =
           record {
             unwoken = woken_lane e w i (wv ∙ ap wakes_values t) ∙ ne_eqb i w other;
             unwaiting = inr (rw (al ∙ ap (wake (lowered x.line k y q)) t, other_phase (lowered x.line k y q) w i (woken q (phase_at (lowered x.line k y q) w)) other) (stays k y yw));

@@ -1,4 +1,5 @@
 -- The edges of document 01 hold: computed from the definitions, and for N = 1, 64 and 128 shown of every sound line.
+use Rattle.std.specs.Prelude.{Option, Some, None}
 use Prim.Native.Nat.{ℕ, zero, suc, ◌+◌, ◌≤◌, ◌<◌}
 use mathlib.Core.Path.{◌≡◌, refl, sym, ap, ◌∙◌}
 use mathlib.Core.Logic.{◌≢◌}
@@ -27,7 +28,6 @@ use Rattle.steps.proofs.PastFirst.{after_past_1, after_past1, calls_good, calls_
 use Rattle.line.proofs.Facts.{Facts, good_of, sound_of}
 use Rattle.line.proofs.Phases.{idle_is, up_kinds, waiting_up}
 use Rattle.waitlist.specs.NextLane.{first_raised, next_lane, raised}
-use Rattle.waitlist.specs.declared.Wakes.{Wakes}
 use Rattle.waitlist.proofs.Nearest.{Next, distance_round, next_found, next_none}
 use Rattle.event.specs.BigEndian.{big_endian, number_of}
 use Rattle.event.specs.Event.{Call, call_of, fields_in, given}
@@ -50,10 +50,10 @@ use Rattle.edges.specs.Edges.{Alone, EnteredInOrder, Holder, Lane5Releases, Last
 turn_of : (y : Phase) → is_flagged y ≡ true → is_waiting y ≡ false → has_turn y ≡ true
 turn_of y u e = let k = up_kinds y in by_test (has_turn y) (λ t. t) (λ f. let z = rw (u, e, f) at k in absurd (omega arith))
 
-taken_is : {s t : Place} {c d : ℕ} {a b : Wakes} → Answer.Region s c a ≡ Answer.Region t d b → b ≡ a
+taken_is : {s t : Place} {c d : ℕ} {a b : Option ℕ} → Answer.Region s c a ≡ Answer.Region t d b → b ≡ a
 taken_is e = cc
 
-freed_is : {a b : Wakes} → Answer.Freed a ≡ Answer.Freed b → b ≡ a
+freed_is : {a b : Option ℕ} → Answer.Freed a ≡ Answer.Freed b → b ≡ a
 freed_is e = cc
 
 -- ---- N = 1
@@ -146,12 +146,12 @@ module _ (x : State) (n i : ℕ) (h : i < n) (H : Holder x n i) where
 
   -- the lane w that waits is the next one
   module _ (w : ℕ) (b : w < n) (waits : Waits x w) (next : (a : ℕ) → Next n flags i a → a ≡ w) where
-    woken : next_lane n flags i ≡ Wakes.Lane w
+    woken : next_lane n flags i ≡ Some w
     woken = go (next_lane n flags i) refl
       where
-        go : (a : Wakes) → next_lane n flags i ≡ a → a ≡ Wakes.Lane w
-        go Wakes.None e = both (waits_up w waits) (next_none n flags i h own_down e w b)
-        go (Wakes.Lane a) e = ap Wakes.Lane (next a (next_found n flags i h own_down a e))
+        go : (a : Option ℕ) → next_lane n flags i ≡ a → a ≡ Some w
+        go None e = both (waits_up w waits) (next_none n flags i h own_down e w b)
+        go (Some a) e = ap Some (next a (next_found n flags i h own_down a e))
 
     release : Release x i w
     release =
@@ -218,8 +218,8 @@ module _ (n last below : ℕ) where
   last_releases : last + 1 ≡ n
       → phases_of (reached_past1 64 (last_by n last below 0)) (0 ∷ below ∷ last ∷ [])
       ≡ Phase.Waiting Purpose.SharedWrite ∷ Phase.Waiting Purpose.WholeBook ∷ Phase.Holding Purpose.SharedWrite (place 0) ∷ []
-      → (step_past1 (reached_past1 64 (last_by n last below 0)) (given (Event.Take last 1))).answer ≡ Answer.Region (place 0) 1 (Wakes.Lane 0)
-      → (step_past1 (reached_past1 64 (last_by n last below 2)) (given (Event.Free last))).answer ≡ Answer.Freed (Wakes.Lane 0)
+      → (step_past1 (reached_past1 64 (last_by n last below 0)) (given (Event.Take last 1))).answer ≡ Answer.Region (place 0) 1 (Some 0)
+      → (step_past1 (reached_past1 64 (last_by n last below 2)) (given (Event.Free last))).answer ≡ Answer.Freed (Some 0)
       → LastReleases n last below
   last_releases e phases taken freed =
       record {
@@ -240,8 +240,8 @@ last_of_128 = last_releases 128 127 126 refl refl refl refl
 
 lane5_releases : (n : ℕ) → 5 < n
     → phases_of (reached_past1 64 (lane5_by n 0)) (4 ∷ 5 ∷ []) ≡ Phase.Waiting Purpose.SharedRead ∷ Phase.Holding Purpose.SharedWrite (place 0) ∷ []
-    → (step_past1 (reached_past1 64 (lane5_by n 0)) (given (Event.Take 5 1))).answer ≡ Answer.Region (place 0) 1 (Wakes.Lane 4)
-    → (step_past1 (reached_past1 64 (lane5_by n 2)) (given (Event.Free 5))).answer ≡ Answer.Freed (Wakes.Lane 4)
+    → (step_past1 (reached_past1 64 (lane5_by n 0)) (given (Event.Take 5 1))).answer ≡ Answer.Region (place 0) 1 (Some 4)
+    → (step_past1 (reached_past1 64 (lane5_by n 2)) (given (Event.Free 5))).answer ≡ Answer.Freed (Some 4)
     → Lane5Releases n
 lane5_releases n h phases taken freed =
     record {

@@ -1,5 +1,5 @@
 -- Document 01, "Edges (* to be proved)", as one table of what the steps answer and leave.
-use Rattle.std.specs.Prelude.{ℕ, ◌+◌, ◌≤◌, ◌≡◌, ◌≢◌, Bool, true, List, [], ◌∷◌, ◌++◌, map, get_or, length, replicate, take, ℤ, pos, neg_ℤ}
+use Rattle.std.specs.Prelude.{Option, Some, None, ℕ, ◌+◌, ◌≤◌, ◌≡◌, ◌≢◌, Bool, true, List, [], ◌∷◌, ◌++◌, map, get_or, length, replicate, take, ℤ, pos, neg_ℤ}
 use Rattle.lists.specs.Lists.{sum_of}
 use Rattle.view.specs.View.{block, place, plain_view, position}
 use Rattle.view.specs.declared.Place.{Place}
@@ -7,9 +7,8 @@ use Rattle.line.specs.declared.Purpose.{Purpose}
 use Rattle.line.specs.declared.Phase.{Phase}
 use Rattle.line.specs.Line.{is_waiting, phase_at, Shaped, unopened}
 use Rattle.line.specs.Sound.{sound}
-use Rattle.waitlist.specs.declared.Wakes.{Wakes}
+use Rattle.view.specs.declared.Block.{Block}
 use Rattle.event.specs.Event.{given}
-use Rattle.event.specs.declared.Blocks.{Blocks}
 use Rattle.event.specs.declared.Event.{Event}
 use Rattle.steps.specs.State.{Result, State}
 use Rattle.steps.specs.Effects.{purpose_of, writing}
@@ -63,8 +62,8 @@ Waits x i = is_waiting (phase_at x.line i) ≡ true
 
 -- a release by lane i, by an 04 or by an 09, wakes lane w
 pub record Release (x : State) (i w : ℕ) : Type 0 where
-  pub take : (c : ℕ) (start : Place) (count : ℕ) (a : Wakes) → answer_to x (Event.Take i c) ≡ Answer.Region start count a → a ≡ Wakes.Lane w
-  pub free : (a : Wakes) → answer_to x (Event.Free i) ≡ Answer.Freed a → a ≡ Wakes.Lane w
+  pub take : (c : ℕ) (start : Place) (count : ℕ) (a : Option ℕ) → answer_to x (Event.Take i c) ≡ Answer.Region start count a → a ≡ Some w
+  pub free : (a : Option ℕ) → answer_to x (Event.Free i) ≡ Answer.Freed a → a ≡ Some w
 
 -- N = n: its last lane holds for this purpose, 0 and the lane below the last wait
 abbrev pub last_by : ℕ → ℕ → ℕ → ℕ → List Event
@@ -79,8 +78,8 @@ pub record LastReleases (n last below : ℕ) : Type 0 where
       phases_of (last_holds n last below 0) (0 ∷ below ∷ last ∷ [])
       ≡ Phase.Waiting Purpose.SharedWrite ∷ Phase.Waiting Purpose.WholeBook ∷ Phase.Holding Purpose.SharedWrite (place 0) ∷ []
   pub sound : map (λ (purpose : ℕ). is_sound (last_holds n last below purpose)) (0 ∷ 2 ∷ []) ≡ true ∷ true ∷ []
-  pub take : answer_to (last_holds n last below 0) (Event.Take last 1) ≡ Answer.Region (place 0) 1 (Wakes.Lane 0)
-  pub free : answer_to (last_holds n last below 2) (Event.Free last) ≡ Answer.Freed (Wakes.Lane 0)
+  pub take : answer_to (last_holds n last below 0) (Event.Take last 1) ≡ Answer.Region (place 0) 1 (Some 0)
+  pub free : answer_to (last_holds n last below 2) (Event.Free last) ≡ Answer.Freed (Some 0)
   pub every : (x : State) → Holder x n last → Waits x 0 → Waits x below → Release x last 0
 
 -- N = n: lane 5 holds for this purpose, only 4 waits
@@ -94,23 +93,13 @@ lane5_holds n purpose = reached 64 (lane5_by n purpose)
 pub record Lane5Releases (n : ℕ) : Type 0 where
   pub line : phases_of (lane5_holds n 0) (4 ∷ 5 ∷ []) ≡ Phase.Waiting Purpose.SharedRead ∷ Phase.Holding Purpose.SharedWrite (place 0) ∷ []
   pub sound : map (λ (purpose : ℕ). is_sound (lane5_holds n purpose)) (0 ∷ 2 ∷ []) ≡ true ∷ true ∷ []
-  pub take : answer_to (lane5_holds n 0) (Event.Take 5 1) ≡ Answer.Region (place 0) 1 (Wakes.Lane 4)
-  pub free : answer_to (lane5_holds n 2) (Event.Free 5) ≡ Answer.Freed (Wakes.Lane 4)
+  pub take : answer_to (lane5_holds n 0) (Event.Take 5 1) ≡ Answer.Region (place 0) 1 (Some 4)
+  pub free : answer_to (lane5_holds n 2) (Event.Free 5) ≡ Answer.Freed (Some 4)
   pub every : (x : State) → Holder x n 5 → Waits x 4 → ((j : ℕ) → Waits x j → j ≡ 4) → Release x 5 4
 
 -- displacement 4, extent 5, blocks (1, 2) and (4, 1); lane 0 holds for this purpose
-abbrev pub two_blocks : Blocks
-two_blocks =
-    record {
-      b0 = block 1 2;
-      b1 = block 4 1;
-      b2 = block 0 0;
-      b3 = block 0 0;
-      b4 = block 0 0;
-      b5 = block 0 0;
-      b6 = block 0 0;
-      b7 = block 0 0;
-    }
+abbrev pub two_blocks : List Block
+two_blocks = block 1 2 ∷ block 4 1 ∷ replicate 6 (block 0 0)
 
 abbrev pub viewed_by : ℕ → List Event
 viewed_by purpose = Event.Open 1 64 ∷ Event.View 4 5 2 two_blocks ∷ Event.Want 0 purpose ∷ []
@@ -202,16 +191,16 @@ pub record StarredEdges : Type 0 where
       ≡ Answer.Wrote (position 12) ∷ Answer.Wrote (position 20) ∷ Answer.Wrote (position 36) ∷ Answer.Wrote (position 52) ∷ []
   pub view_writes : (content : ℕ)
       → answers_to (viewed 0) (Event.Take 0 4 ∷ replicate 4 (Event.Write 0 content))
-      ≡ Answer.Region (place 0) 4 Wakes.None
+      ≡ Answer.Region (place 0) 4 None
       ∷ Answer.Wrote (position 12)
       ∷ Answer.Wrote (position 20)
       ∷ Answer.Wrote (position 36)
       ∷ Answer.Wrote (position 52)
       ∷ []
   -- "Plain view, capacity 64, pointer 0: 8 records fit, 9 give 16; capacity 63: 7 fit"
-  pub fit_64 : answer_to (plain 64) (Event.Take 0 8) ≡ Answer.Region (place 0) 8 Wakes.None
+  pub fit_64 : answer_to (plain 64) (Event.Take 0 8) ≡ Answer.Region (place 0) 8 None
   pub overfill_64 : answer_to (plain 64) (Event.Take 0 9) ≡ Answer.Refused 16
-  pub fit_63 : answer_to (plain 63) (Event.Take 0 7) ≡ Answer.Region (place 0) 7 Wakes.None
+  pub fit_63 : answer_to (plain 63) (Event.Take 0 7) ≡ Answer.Region (place 0) 7 None
   pub overfill_63 : answer_to (plain 63) (Event.Take 0 8) ≡ Answer.Refused 16
   -- "Pointer 3, whence 1: −3 gives 0, −4 gives 15", as events and as bytes
   pub back_3 : answer_to pointer3 (Event.Seek 1 (minus 3)) ≡ Answer.Seek (place 0)
@@ -236,7 +225,7 @@ pub record StarredEdges : Type 0 where
   -- an append: the record of the place that the seek gives lies past the size, and the end is then one further
   pub append_viewed : (content : ℕ)
       → answers_to viewed24 (Event.Seek 2 (pos 0) ∷ Event.Want 0 0 ∷ Event.Take 0 1 ∷ Event.Write 0 content ∷ Event.Seek 2 (pos 0) ∷ [])
-      ≡ Answer.Seek (place 2) ∷ Answer.Holds (place 2) ∷ Answer.Region (place 2) 1 Wakes.None ∷ Answer.Wrote (position 36) ∷ Answer.Seek (place 3) ∷ []
+      ≡ Answer.Seek (place 2) ∷ Answer.Holds (place 2) ∷ Answer.Region (place 2) 1 None ∷ Answer.Wrote (position 36) ∷ Answer.Seek (place 3) ∷ []
   -- "Plain view, capacity 120, N = 3, pointer 10, lanes 0, 1, 2 enter 2, 0, 3 in any order: starts 10, 12, 12, pointer 15"
   pub view_10 : pointer10.line.view ≡ plain_view
   pub pointer_10 : pointer10.line.pointer ≡ place 10

@@ -16,7 +16,8 @@ use Rattle.event.specs.Event.{event_of, fields_in, fields_of, kind_of}
 use Rattle.event.specs.Typed.{AreBytes, Typed}
 use Rattle.event.specs.declared.Event.{Event}
 use Rattle.event.proofs.Numbers.{signed_of_unsigned, unsigned_of_signed}
-use Rattle.event.proofs.Fields.{bytes_drop, field_below}
+use Rattle.event.proofs.Blocks.{block_numbers_length, blocks_back}
+use Rattle.event.proofs.Fields.{bytes_drop, field_below, fit_length}
 
 -- ---- by kind
 -- P of each of `count` numbers from k on, one after the other: `p ▹ q ▹ .. ▹ listed`
@@ -75,25 +76,43 @@ event_of_fields (Event.Put lane p content) k t = refl
 event_of_fields (Event.Look lane p) k t = refl
 event_of_fields (Event.Free lane) k t = refl
 event_of_fields (Event.Enter lane count) k t = refl
-event_of_fields (Event.View displacement extent used blocks) k t = refl
+event_of_fields (Event.View displacement extent used blocks) k t =
+    let counted = fit_length (field_lengths 11) _ t.fit in
+    ap (Event.View displacement extent used) (blocks_back displacement extent used blocks (omega (arith, block_numbers_length blocks)))
 event_of_fields (Event.Seek whence offset) k t = ap (Event.Seek whence) (signed_of_unsigned offset t.offset)
 event_of_fields Event.Unlisted k t = absurd (false≢true k)
 
+-- a view's array has eight blocks, as its type says
+abbrev pub EightBlocks : Event → Type 0
+EightBlocks (Event.Open lanes capacity) = Unit {0}
+EightBlocks (Event.Want lane purpose) = Unit {0}
+EightBlocks (Event.Receive lane) = Unit {0}
+EightBlocks (Event.Take lane count) = Unit {0}
+EightBlocks (Event.Write lane content) = Unit {0}
+EightBlocks (Event.Read lane) = Unit {0}
+EightBlocks (Event.Put lane p content) = Unit {0}
+EightBlocks (Event.Look lane p) = Unit {0}
+EightBlocks (Event.Free lane) = Unit {0}
+EightBlocks (Event.Enter lane count) = Unit {0}
+EightBlocks (Event.View displacement extent used blocks) = length blocks ≡ 8
+EightBlocks (Event.Seek whence offset) = Unit {0}
+EightBlocks Event.Unlisted = Unit {0}
+
 -- an event has as many fields as its kind has lengths
-pub fields_counted : (e : Event) → length (field_lengths (kind_of e)) ≡ length (fields_of e)
-fields_counted (Event.Open lanes capacity) = refl
-fields_counted (Event.Want lane purpose) = refl
-fields_counted (Event.Receive lane) = refl
-fields_counted (Event.Take lane count) = refl
-fields_counted (Event.Write lane content) = refl
-fields_counted (Event.Read lane) = refl
-fields_counted (Event.Put lane p content) = refl
-fields_counted (Event.Look lane p) = refl
-fields_counted (Event.Free lane) = refl
-fields_counted (Event.Enter lane count) = refl
-fields_counted (Event.View displacement extent used blocks) = refl
-fields_counted (Event.Seek whence offset) = refl
-fields_counted Event.Unlisted = refl
+pub fields_counted : (e : Event) → EightBlocks e → length (field_lengths (kind_of e)) ≡ length (fields_of e)
+fields_counted (Event.Open lanes capacity) c = refl
+fields_counted (Event.Want lane purpose) c = refl
+fields_counted (Event.Receive lane) c = refl
+fields_counted (Event.Take lane count) c = refl
+fields_counted (Event.Write lane content) c = refl
+fields_counted (Event.Read lane) c = refl
+fields_counted (Event.Put lane p content) c = refl
+fields_counted (Event.Look lane p) c = refl
+fields_counted (Event.Free lane) c = refl
+fields_counted (Event.Enter lane count) c = refl
+fields_counted (Event.View displacement extent used blocks) c = omega (arith, block_numbers_length blocks)
+fields_counted (Event.Seek whence offset) c = refl
+fields_counted Event.Unlisted c = refl
 
 -- ---- from bytes to an event's fields
 pub kind_of_event : (kind : ℕ) (fields : List ℕ) → is_listed kind ≡ true → kind_of (event_of kind fields) ≡ kind

@@ -1,9 +1,9 @@
 -- Document 01, "Events": an event as its kind and fields, read from bytes and written as bytes.
 use Rattle.std.specs.Prelude.{ℕ, cond, List, [], ◌∷◌, ◌++◌, drop, get_or, length, take, leb, ℤ, pos}
+use Rattle.view.specs.View.{block}
 use Rattle.view.specs.declared.Block.{Block}
 use Rattle.event.specs.BigEndian.{big_endian, number_of, unsigned}
 use Rattle.event.specs.Kinds.{body_length, field_lengths, is_listed, kind_at}
-use Rattle.event.specs.declared.Blocks.{Blocks}
 use Rattle.event.specs.declared.Event.{Event}
 
 -- ---- fields as bytes
@@ -33,8 +33,12 @@ kind_of (Event.View displacement extent used blocks) = 0x0B
 kind_of (Event.Seek whence offset) = 0x0C
 kind_of Event.Unlisted = 0
 
-abbrev pub block_list : Blocks → List Block
-block_list b = b.b0 ∷ b.b1 ∷ b.b2 ∷ b.b3 ∷ b.b4 ∷ b.b5 ∷ b.b6 ∷ b.b7 ∷ []
+-- an array of eight, by its elements
+abbrev pub element : List Block → ℕ → Block
+element bs n = get_or bs n (block 0 0)
+
+abbrev pub block_list : List Block → List Block
+block_list bs = element bs 0 ∷ element bs 1 ∷ element bs 2 ∷ element bs 3 ∷ element bs 4 ∷ element bs 5 ∷ element bs 6 ∷ element bs 7 ∷ []
 
 abbrev pub block_numbers : List Block → List ℕ
 block_numbers [] = []
@@ -52,7 +56,7 @@ fields_of (Event.Put lane k content) = lane ∷ k.0 ∷ content ∷ []
 fields_of (Event.Look lane k) = lane ∷ k.0 ∷ []
 fields_of (Event.Free lane) = lane ∷ []
 fields_of (Event.Enter lane count) = lane ∷ count ∷ []
-fields_of (Event.View displacement extent used blocks) = displacement ∷ extent ∷ used ∷ block_numbers (block_list blocks)
+fields_of (Event.View displacement extent used blocks) = displacement ∷ extent ∷ used ∷ block_numbers blocks
 fields_of (Event.Seek whence offset) = whence ∷ unsigned offset ∷ []
 fields_of Event.Unlisted = []
 

@@ -5,7 +5,7 @@ use Prim.Native.String.{String}
 use Rattle.lists.specs.Lists.{sum_of}
 use Rattle.view.specs.View.{block, place}
 use Rattle.event.specs.BigEndian.{signed}
-use Rattle.event.specs.declared.Blocks.{Blocks}
+use Rattle.view.specs.declared.Block.{Block}
 use Rattle.event.specs.declared.Event.{Event}
 
 -- ---- a field of a body
@@ -51,18 +51,17 @@ abbrev pub by_no_lane : String → List Field → ((ℕ → ℕ) → Event) → 
 by_no_lane word fields event = record { word = word; names_lane = false; fields = fields; event = event }
 
 -- the eight blocks of a view: its fields 3 to 18
-abbrev pub blocks_at : (ℕ → ℕ) → Blocks
+abbrev pub blocks_at : (ℕ → ℕ) → List Block
 blocks_at v =
-    record {
-      b0 = block (v 3) (v 4);
-      b1 = block (v 5) (v 6);
-      b2 = block (v 7) (v 8);
-      b3 = block (v 9) (v 10);
-      b4 = block (v 11) (v 12);
-      b5 = block (v 13) (v 14);
-      b6 = block (v 15) (v 16);
-      b7 = block (v 17) (v 18);
-    }
+    block (v 3) (v 4)
+    ∷ block (v 5) (v 6)
+    ∷ block (v 7) (v 8)
+    ∷ block (v 9) (v 10)
+    ∷ block (v 11) (v 12)
+    ∷ block (v 13) (v 14)
+    ∷ block (v 15) (v 16)
+    ∷ block (v 17) (v 18)
+    ∷ []
 
 -- the kinds from 01 on, in order
 abbrev pub kinds : List Kind

@@ -1,20 +1,9 @@
 // Writes events of each kind, prints their bytes, reads them back and prints the fields; stdout has document 01's answers.
 #![tactic(auto)]
 
-use event::{Blocks, Cursor, Event, Reading, Writing};
+use event::{Cursor, Event, Reading, Writing};
+use limits::MOST_BLOCKS;
 use view::{Block, Place};
-
-fn wide8(x: u8) -> u64 {
-    x as u64
-}
-
-fn wide16(x: u16) -> u64 {
-    x as u64
-}
-
-fn wide32(x: u32) -> u64 {
-    x as u64
-}
 
 // What comes before a number, the number in decimal and a line end.
 fn print_after(lead: &[u8], value: u64) {
@@ -24,9 +13,9 @@ fn print_after(lead: &[u8], value: u64) {
 }
 
 // A label, a blank, the number in decimal and a line end.
-fn print(name: &[u8], value: u64) {
+fn print<N: Into<u64>>(name: &[u8], value: N) {
     io::write_all(1, name);
-    print_after(b" ", value);
+    print_after(b" ", value.into());
 }
 
 // A label, a blank, the number in hexadecimal and a line end.
@@ -40,7 +29,7 @@ fn print_hex(name: &[u8], value: u64, width: usize) {
 // Two hexadecimal digits for each byte.
 fn print_digits(bytes: &[u8]) {
     for byte in bytes {
-        io::print_hex(1, wide8(*byte), 2);
+        io::print_hex(1, u64::from(*byte), 2);
     }
 }
 
@@ -52,44 +41,41 @@ fn print_bytes(name: &[u8], bytes: &[u8]) {
     io::write_all(1, b"\n");
 }
 
-// The size of an i32 whatever its sign: the least one has no negation of its type.
-fn magnitude(z: i32) -> u64 {
-    u64::from(z.unsigned_abs())
-}
-
+// A sign, and the size whatever it is: the least i32 has no negation of its type.
 fn print_offset(offset: i32) {
+    let size = u64::from(offset.unsigned_abs());
     if offset < 0 {
-        print_after(b"offset -", magnitude(offset));
-        return;
+        print_after(b"offset -", size);
+    } else {
+        print_after(b"offset ", size);
     }
-    print_after(b"offset ", magnitude(offset));
 }
 
 // The fields of an event: its kind and the first field, then the others.
 fn print_lane(kind: u64, lane: u8) {
     print_hex(b"kind", kind, 2);
-    print(b"lane", wide8(lane));
+    print(b"lane", lane);
 }
 
 fn print_lane_count(kind: u64, lane: u8, count: u16) {
     print_lane(kind, lane);
-    print(b"count", wide16(count));
+    print(b"count", count);
 }
 
 fn print_lane_place(kind: u64, lane: u8, place: Place) {
     print_lane(kind, lane);
-    print(b"place", wide32(place.0));
+    print(b"place", place.0);
 }
 
 fn print_open(lanes: u8, capacity: u32) {
     print_hex(b"kind", 0x01, 2);
-    print(b"lanes", wide8(lanes));
-    print(b"capacity", wide32(capacity));
+    print(b"lanes", lanes);
+    print(b"capacity", capacity);
 }
 
 fn print_want(lane: u8, purpose: u8) {
     print_lane(0x02, lane);
-    print(b"purpose", wide8(purpose));
+    print(b"purpose", purpose);
 }
 
 fn print_write(lane: u8, content: u64) {
@@ -104,28 +90,23 @@ fn print_put(lane: u8, place: Place, content: u64) {
 
 fn print_seek(whence: u8, offset: i32) {
     print_hex(b"kind", 0x0C, 2);
-    print(b"whence", wide8(whence));
+    print(b"whence", whence);
     print_offset(offset);
 }
 
 fn print_block(b: Block) {
-    print(b"start", wide16(b.start));
-    print(b"length", wide16(b.length));
+    print(b"start", b.start);
+    print(b"length", b.length);
 }
 
-fn print_view(displacement: u32, extent: u16, used: u8, blocks: Blocks) {
+fn print_view(displacement: u32, extent: u16, used: u8, blocks: [Block; MOST_BLOCKS]) {
     print_hex(b"kind", 0x0B, 2);
-    print(b"displacement", wide32(displacement));
-    print(b"extent", wide16(extent));
-    print(b"blocks", wide8(used));
-    print_block(blocks.b0);
-    print_block(blocks.b1);
-    print_block(blocks.b2);
-    print_block(blocks.b3);
-    print_block(blocks.b4);
-    print_block(blocks.b5);
-    print_block(blocks.b6);
-    print_block(blocks.b7);
+    print(b"displacement", displacement);
+    print(b"extent", extent);
+    print(b"blocks", used);
+    for block in blocks {
+        print_block(block);
+    }
 }
 
 fn print_event(event: Event) {
@@ -160,21 +141,21 @@ fn print_event(event: Event) {
 // What reading found: an event and where the next one starts, the end, or a refusal.
 fn print_reading(reading: Reading) {
     match reading {
-        Reading::Event { event, next } => {
+        Ok(Some((event, next))) => {
             print_event(event);
             print(b"next", next.at as u64);
         }
-        Reading::End => {
+        Ok(None) => {
             io::write_all(1, b"end\n");
         }
-        Reading::Refused(number) => print(b"refused", wide8(number)),
+        Err(refusal) => print(b"refused", refusal.number()),
     }
 }
 
 fn print_writing(writing: Writing) {
     match writing {
-        Writing::Length(n) => print(b"length", n as u64),
-        Writing::Refused(number) => print(b"refused", wide8(number)),
+        Ok(length) => print(b"length", length as u64),
+        Err(refusal) => print(b"refused", refusal.number()),
     }
 }
 
@@ -215,7 +196,7 @@ fn write_short(event: Event, buffer: &mut [u8], n: usize) {
 }
 
 fn write_and_read(event: Event, buffer: &mut [u8], spare: &mut [u8]) {
-    let Writing::Length(n) = encode::write_event(event, buffer) else {
+    let Ok(n) = encode::write_event(event, buffer) else {
         return;
     };
     print_written(buffer, n);
@@ -234,36 +215,29 @@ fn block(start: u16, length: u16) -> Block {
     Block { start, length }
 }
 
-// Eight times the same block.
-fn eight(b: Block) -> Blocks {
-    Blocks {
-        b0: b,
-        b1: b,
-        b2: b,
-        b3: b,
-        b4: b,
-        b5: b,
-        b6: b,
-        b7: b,
-    }
-}
-
 // Eight blocks that differ in each byte.
-fn rising() -> Blocks {
-    Blocks {
-        b0: block(0x1011, 0x1213),
-        b1: block(0x1415, 0x1617),
-        b2: block(0x1819, 0x1A1B),
-        b3: block(0x1C1D, 0x1E1F),
-        b4: block(0x2021, 0x2223),
-        b5: block(0x2425, 0x2627),
-        b6: block(0x2829, 0x2A2B),
-        b7: block(0x2C2D, 0x2E2F),
-    }
+fn rising() -> [Block; MOST_BLOCKS] {
+    [
+        block(0x1011, 0x1213),
+        block(0x1415, 0x1617),
+        block(0x1819, 0x1A1B),
+        block(0x1C1D, 0x1E1F),
+        block(0x2021, 0x2223),
+        block(0x2425, 0x2627),
+        block(0x2829, 0x2A2B),
+        block(0x2C2D, 0x2E2F),
+    ]
 }
 
 // An event of each kind from the values of its fields.
-fn test_each(byte: u8, count: u16, number: u32, content: u64, offset: i32, blocks: Blocks) {
+fn test_each(
+    byte: u8,
+    count: u16,
+    number: u32,
+    content: u64,
+    offset: i32,
+    blocks: [Block; MOST_BLOCKS],
+) {
     let place = Place(number);
     test(Event::Open {
         lanes: byte,
@@ -311,9 +285,9 @@ fn read_two(at: usize) {
 fn read_kind(kind: u8) {
     let mut sheet = [0u8; 41];
     sheet[0] = kind;
-    print_hex(b"alone", wide8(kind), 2);
+    print_hex(b"alone", u64::from(kind), 2);
     print_reading(decode::read_event(&[kind], Cursor { at: 0 }));
-    print_hex(b"followed", wide8(kind), 2);
+    print_hex(b"followed", u64::from(kind), 2);
     print_reading(decode::read_event(&sheet, Cursor { at: 0 }));
 }
 
@@ -330,14 +304,12 @@ fn write_unlisted() {
 
 fn test_refusals() {
     write_unlisted();
-    read_kind(0x00);
-    read_kind(0x0D);
-    read_kind(0xFF);
-    read_two(0);
-    read_two(2);
-    read_two(3);
-    read_two(4);
-    read_two(5);
+    for kind in [0x00, 0x0D, 0xFF] {
+        read_kind(kind);
+    }
+    for at in [0, 2, 3, 4, 5] {
+        read_two(at);
+    }
     print_reading(decode::read_event(&[], Cursor { at: 0 }));
 }
 
@@ -359,14 +331,14 @@ fn test_more() {
 
 // The least value of each field, the largest, and values that differ in each byte.
 fn main() {
-    test_each(0, 0, 0, 0, 0, eight(Block::UNUSED));
+    test_each(0, 0, 0, 0, 0, [Block::UNUSED; MOST_BLOCKS]);
     test_each(
         255,
         65535,
         4294967295,
         18446744073709551615,
         -1,
-        eight(block(65535, 65535)),
+        [block(65535, 65535); MOST_BLOCKS],
     );
     test_each(
         0x01,

@@ -1,4 +1,5 @@
 -- A line with more idle entries answers every call the same, kind by kind, and is then again one with more idle entries.
+use Rattle.std.specs.Prelude.{Option, Some, None}
 use Prim.Native.Nat.{ℕ, zero, suc, ◌+◌, ◌-◌, ◌≤◌, ◌<◌}
 use mathlib.Core.Path.{◌≡◌, refl, sym, ap, ◌∙◌, subst}
 use mathlib.Core.Bool.{Bool, true, false, cond, not, ◌&&◌}
@@ -20,7 +21,6 @@ use Rattle.line.specs.declared.Purpose.{Purpose}
 use Rattle.line.specs.Line.{count_in, holds_shared, holds_whole, idle_lane, is_gathered, is_idle, is_idle_or_gathered, is_reading, is_shared_read, is_shared_write, is_waiting, is_woken, is_writing, lane, on, phase_at, place_in, purpose_in}
 use Rattle.line.specs.Sound.{gathered_total, sound}
 use Rattle.waitlist.specs.NextLane.{first_raised, next_lane}
-use Rattle.waitlist.specs.declared.Wakes.{Wakes}
 use Rattle.waitlist.proofs.Laws.{next_below}
 use Rattle.event.specs.Event.{Call, cut_short, given}
 use Rattle.event.specs.declared.Event.{Event}
@@ -76,16 +76,16 @@ kept l k E n a b = record { enough = omega (arith, n, a, E.enough); flags = omeg
 released_same : (more : ℕ) (l : Line) → HasEntries l → (i : ℕ) → released next_lane (widened more l) i ≡ widened more (released next_lane l i)
 released_same more l E i = rw (next_same more l.lanes l.flag i) (go (next_of next_lane l i) refl)
   where
-    go : (w : Wakes) → next_of next_lane l i ≡ w → wake (widened more l) w ≡ widened more (wake l w)
-    go Wakes.None e = refl
-    go (Wakes.Lane w) e = rw (phase_same more l w) (phase_set more l E w (next_below l.lanes l.flag i w e) (woken l.pointer (phase_at l w)))
+    go : (w : Option ℕ) → next_of next_lane l i ≡ w → wake (widened more l) w ≡ widened more (wake l w)
+    go None e = refl
+    go (Some w) e = rw (phase_same more l w) (phase_set more l E w (next_below l.lanes l.flag i w e) (woken l.pointer (phase_at l w)))
 
 released_kept : (l : Line) → HasEntries l → (i : ℕ) → HasEntries (released next_lane l i)
 released_kept l E i = go (next_of next_lane l i)
   where
-    go : (w : Wakes) → HasEntries (wake l w)
-    go Wakes.None = E
-    go (Wakes.Lane w) = kept l (wake l (Wakes.Lane w)) E refl (length-set l.lane w (lane (woken l.pointer (phase_at l w)))) refl
+    go : (w : Option ℕ) → HasEntries (wake l w)
+    go None = E
+    go (Some w) = kept l (wake l (Some w)) E refl (length-set l.lane w (lane (woken l.pointer (phase_at l w)))) refl
 
 -- an ordered call starts the same lanes
 started_same : (more k : ℕ) (ls : List Lane) → started k (ls ++ replicate more idle_lane) ≡ started k ls ++ replicate more idle_lane
@@ -170,7 +170,7 @@ module _ (more : ℕ) (x : State) (E : HasEntries x.line) where
       (λ e. raises (Answer.Holds v) i h holds) (λ e. raises Answer.Waits i h waits))
 
   -- a release, with its answer by the lane that it wakes
-  releases : (says : Wakes → Answer) (i : ℕ) → i < x.line.lanes → (p : Phase) (v : Place)
+  releases : (says : Option ℕ → Answer) (i : ℕ) → i < x.line.lanes → (p : Phase) (v : Place)
       → SameStep (leaves (says (next_of next_lane (lowered wide.line i p v) i)) (released next_lane (lowered wide.line i p v) i) x.book)
       (leaves (says (next_of next_lane (lowered x.line i p v) i)) (released next_lane (lowered x.line i p v) i) x.book)
   releases says i h p v =

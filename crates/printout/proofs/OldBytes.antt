@@ -1,4 +1,5 @@
 -- Nothing old shows: over two lent books of one length, whatever bytes they hold, a sheet gets the same answers and prints the same text.
+use Rattle.std.specs.Prelude.{Option, Some, None, Ok, Err}
 use Prim.Native.Nat.{ℕ, zero, suc, ◌+◌, ◌≤◌}
 use mathlib.Core.Path.{◌≡◌, refl, sym, ap, ◌∙◌, subst}
 use mathlib.Core.Bool.{Bool, true, false, cond}
@@ -20,12 +21,10 @@ use Rattle.line.specs.Line.{phase_at, place_in}
 use Rattle.line.specs.Sound.{numbers_ok, sound, unopened_numbers}
 use Rattle.line.proofs.Facts.{open_numbers_lem}
 use Rattle.waitlist.specs.NextLane.{next_lane}
-use Rattle.waitlist.specs.declared.Wakes.{Wakes}
 use Rattle.event.specs.BigEndian.{big_endian}
 use Rattle.event.specs.Event.{Call, cut_short, given}
-use Rattle.event.specs.ReadWrite.{read_at}
+use Rattle.event.specs.ReadWrite.{Reading, read_at}
 use Rattle.event.specs.declared.Event.{Event}
-use Rattle.event.specs.declared.Reading.{Reading}
 use Rattle.steps.specs.Effects.{Search, all_entered, entered, freed, next_of, others_down, record_at, taken, wake}
 use Rattle.steps.specs.Refusals.{Reason, reasons}
 use Rattle.steps.specs.State.{Result, State, fresh, leaves}
@@ -93,9 +92,9 @@ size_fits l buffer e =
     (λ z. (open_numbers_lem l buffer (rw z at n)).sized)
 
 -- a wake leaves the capacity
-wake_capacity : (l : Line) (w : Wakes) → (wake l w).capacity ≡ l.capacity
-wake_capacity l (Wakes.Lane i) = refl
-wake_capacity l Wakes.None = refl
+wake_capacity : (l : Line) (w : Option ℕ) → (wake l w).capacity ≡ l.capacity
+wake_capacity l (Some i) = refl
+wake_capacity l None = refl
 
 -- a line with a book
 abbrev lent : Line → List ℕ → State
@@ -180,12 +179,12 @@ same_answered answer other r s e S = record { answers = cc; after = S.after }
 
 same_reading : (x y : State) (reading : Reading) (rest : State → ℕ → Ran) → Agree x y → ((u v : State) (next : ℕ) → Agree u v → SameRun (rest u next) (rest v next))
     → SameRun (on_reading x reading rest) (on_reading y reading rest)
-same_reading x y (Reading.Event e next) rest A f =
+same_reading x y (Ok (Some (e, next))) rest A f =
     let S = same_step next_lane x y (given e) A in
     same_answered _ _ _ _ S.answer
     (both_ways SameRun _ _ (ap ends_run S.answer) (record { answers = refl; after = S.after }) (λ k. f _ _ next.at S.after))
-same_reading x y Reading.End rest A f = record { answers = refl; after = A }
-same_reading x y (Reading.Refused k) rest A f = record { answers = refl; after = A }
+same_reading x y (Ok None) rest A f = record { answers = refl; after = A }
+same_reading x y (Err k) rest A f = record { answers = refl; after = A }
 
 same_run_on : (most : ℕ) (x y : State) (sheet : List ℕ) (at : ℕ) → Agree x y → SameRun (run_on most x sheet at) (run_on most y sheet at)
 unfolding run_on

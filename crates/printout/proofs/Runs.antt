@@ -1,4 +1,5 @@
 -- How a run goes on by one event, and where it ends.
+use Rattle.std.specs.Prelude.{None, Ok, Err}
 use Prim.Native.Nat.{ℕ, zero, suc}
 use mathlib.Core.Path.{◌≡◌, refl, sym}
 use mathlib.Core.Bool.{true, false}
@@ -11,10 +12,11 @@ use Rattle.line.specs.Sound.{sound}
 use Rattle.waitlist.specs.NextLane.{next_lane}
 use Rattle.event.specs.Kinds.{is_listed}
 use Rattle.event.specs.Event.{given, kind_of}
-use Rattle.event.specs.ReadWrite.{read_at}
+use Rattle.event.specs.ReadWrite.{event_read, read_at}
 use Rattle.event.specs.declared.Cursor.{Cursor}
 use Rattle.event.specs.declared.Event.{Event}
-use Rattle.event.specs.declared.Reading.{Reading}
+use Rattle.event.specs.Refusal.{number_of}
+use Rattle.event.specs.declared.Refusal.{Refusal}
 use Rattle.steps.specs.Answer.{said_by}
 use Rattle.steps.specs.Effects.{effect}
 use Rattle.steps.specs.State.{Result, State}
@@ -41,16 +43,16 @@ goes_on x e ok t = go (decided next_lane x (given e))
 
 -- ---- the run from a cursor on
 module _ (x : State) (sheet : List ℕ) (at : ℕ) where
-  pub run_end : (most : ℕ) → read_at sheet at ≡ Reading.End → run_on most x sheet at ≡ done x
+  pub run_end : (most : ℕ) → read_at sheet at ≡ Ok None → run_on most x sheet at ≡ done x
   unfolding run_on
   run_end zero q = refl
   run_end (suc most) q = rw q
 
-  pub run_refused : (most k : ℕ) → read_at sheet at ≡ Reading.Refused k → run_on (suc most) x sheet at ≡ answered (Answer.Refused k) (done x)
+  pub run_refused : (most : ℕ) (k : Refusal) → read_at sheet at ≡ Err k → run_on (suc most) x sheet at ≡ answered (Answer.Refused (number_of k)) (done x)
   unfolding run_on
   run_refused most k q = rw q
 
-  pub run_event : (most : ℕ) (e : Event) (next : Cursor) → read_at sheet at ≡ Reading.Event e next → sound x.line (length x.book) ≡ true → is_listed (kind_of e) ≡ true
+  pub run_event : (most : ℕ) (e : Event) (next : Cursor) → read_at sheet at ≡ event_read e next → sound x.line (length x.book) ≡ true → is_listed (kind_of e) ≡ true
       → run_on (suc most) x sheet at ≡ answered (call_event x e).answer (run_on most (call_event x e).after sheet next.at)
   unfolding run_on
   run_event most e next q ok t = rw (q, goes_on x e ok t)

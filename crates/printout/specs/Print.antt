@@ -1,9 +1,8 @@
 -- Document 01, "One sheet, whole": what `linebook` prints of a sheet, to the byte.
-use Rattle.std.specs.Prelude.{ℕ, zero, suc, ◌+◌, ◌/◌, ◌%◌, ◌^◌, cond, List, [], ◌∷◌, ◌++◌, map, drop, length, replicate, take, ltb, leb}
+use Rattle.std.specs.Prelude.{Option, ℕ, zero, suc, ◌+◌, ◌/◌, ◌%◌, ◌^◌, cond, List, [], ◌∷◌, ◌++◌, map, drop, length, replicate, take, ltb, leb}
 use Rattle.limits.specs.Limits.{most_capacity, most_sheet}
 use Rattle.view.specs.declared.Place.{Place}
 use Rattle.waitlist.specs.NextLane.{wakes_values}
-use Rattle.waitlist.specs.declared.Wakes.{Wakes}
 use Rattle.steps.specs.Answer.{said_by}
 use Rattle.steps.specs.State.{State, fresh}
 use Rattle.steps.specs.declared.Answer.{Answer}
@@ -38,7 +37,7 @@ abbrev pub wakes_text : List ℕ → List (List ℕ)
 wakes_text [] = ascii "wakes" ∷ ascii "none" ∷ []
 wakes_text (i ∷ more) = ascii "wakes" ∷ decimal i ∷ []
 
-abbrev pub wakes_words : Wakes → List (List ℕ)
+abbrev pub wakes_words : Option ℕ → List (List ℕ)
 wakes_words w = wakes_text (wakes_values w)
 
 -- "the answer, its values": a word, and the values that the answer says, in decimal

@@ -1,8 +1,8 @@
 -- The run of a sheet: its events one after the other, on one line and one lent book.
-use Rattle.std.specs.Prelude.{ℕ, zero, suc, Bool, cond, not, ◌&&◌, List, [], ◌∷◌, length, leb}
+use Rattle.std.specs.Prelude.{Some, None, Ok, Err, ℕ, zero, suc, Bool, cond, not, ◌&&◌, List, [], ◌∷◌, length, leb}
 use Rattle.line.specs.Sound.{sound}
-use Rattle.event.specs.ReadWrite.{read_at}
-use Rattle.event.specs.declared.Reading.{Reading}
+use Rattle.event.specs.ReadWrite.{Reading, read_at}
+use Rattle.event.specs.Refusal.{number_of}
 use Rattle.steps.specs.Answer.{said_by}
 use Rattle.steps.specs.State.{State}
 use Rattle.steps.specs.Step.{call_event}
@@ -25,12 +25,12 @@ ends_run a = not (said_by a).accepted && leb (said_by a).number 3
 
 -- what is read at the cursor, and then the rest of the run, which goes on with a state at the next cursor
 abbrev pub on_reading : State → Reading → (State → ℕ → Ran) → Ran
-on_reading x (Reading.Event e next) rest =
+on_reading x (Ok (Some (e, next))) rest =
     let r = call_event x e in
     let later = rest r.after next.at in
     answered r.answer (cond (ends_run r.answer) (done r.after) later)
-on_reading x Reading.End rest = done x
-on_reading x (Reading.Refused k) rest = answered (Answer.Refused k) (done x)
+on_reading x (Ok None) rest = done x
+on_reading x (Err k) rest = answered (Answer.Refused (number_of k)) (done x)
 
 -- the events from a cursor on; each is at least one byte long, so `most` events at most are left
 unfoldable pub run_on : ℕ → State → List ℕ → ℕ → Ran

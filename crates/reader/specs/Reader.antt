@@ -1,15 +1,14 @@
 -- A reader over lent bytes: `read_at`, and how far it has got then. Tied to `run` by the contract of run::run_reported, which reads by it.
-use Rattle.std.specs.Prelude.{ℕ, List}
-use Rattle.event.specs.ReadWrite.{read_at}
-use Rattle.event.specs.declared.Reading.{Reading}
+use Rattle.std.specs.Prelude.{Some, None, Ok, Err, ℕ, List}
+use Rattle.event.specs.ReadWrite.{Reading, read_at}
 use Rattle.reader.specs.declared.Reader.{Reader}
 use Rattle.reader.specs.declared.Step.{Step}
 
 -- the cursor goes past an event, and stays at the end and after a refusal
 abbrev pub after_reading : ℕ → Reading → ℕ
-after_reading at (Reading.Event e next) = next.at
-after_reading at Reading.End = at
-after_reading at (Reading.Refused k) = at
+after_reading at (Ok (Some (e, next))) = next.at
+after_reading at (Ok None) = at
+after_reading at (Err k) = at
 
 abbrev pub step_at : List ℕ → ℕ → Step
 step_at sheet at = record { reading = read_at sheet at; at = after_reading at (read_at sheet at) }

@@ -7,7 +7,7 @@ ghost use Rattle.reader.specs.Reader.{after_reading, onward, step_at, reader_ste
 use event::{Cursor, Reading};
 
 // What was read, and where the reader stands then.
-#[derive(Clone, Copy)]
+#[derive(Clone, Copy, Debug, PartialEq, Eq)]
 pub struct Step {
     pub reading: Reading,
     pub at: usize,
@@ -25,9 +25,8 @@ fn after_reading(reading: Reading, at: usize) -> usize
     ensures { result ≡ after_reading at reading }
 {
     match reading {
-        Reading::Event { event: _, next } => next.at,
-        Reading::End => at,
-        Reading::Refused(_) => at,
+        Ok(Some((_, next))) => next.at,
+        Ok(None) | Err(_) => at,
     }
 }
 
@@ -36,8 +35,10 @@ pub fn step_at(sheet: &[u8], at: usize) -> Step
     ensures { result ≡ step_at sheet.now at }
 {
     let reading = decode::read_event(sheet, Cursor { at });
-    let to = after_reading(reading, at);
-    Step { reading, at: to }
+    Step {
+        reading,
+        at: after_reading(reading, at),
+    }
 }
 
 // The next event, the end or a refusal; the reader moves on past an event.

@@ -4,11 +4,12 @@
 ghost use Rattle.std.specs.Prelude.{◌≡◌};
 ghost use Rattle.scopes.specs.Scope.{scope_of};
 
-use event::{Blocks, Event};
-use view::Place;
+use event::Event;
+use limits::MOST_BLOCKS;
+use view::{Block, Place};
 
 // A call of a lane, of the kinds 02 to 09, but for its lane.
-#[derive(Clone, Copy)]
+#[derive(Clone, Copy, Debug, PartialEq, Eq)]
 pub enum LaneCall {
     Want { purpose: u8 },
     Receive,
@@ -21,7 +22,7 @@ pub enum LaneCall {
 }
 
 // A call on the whole line: 01, 0A, 0B or 0C.
-#[derive(Clone, Copy)]
+#[derive(Clone, Copy, Debug, PartialEq, Eq)]
 pub enum LineCall {
     Open {
         lanes: u8,
@@ -35,7 +36,7 @@ pub enum LineCall {
         displacement: u32,
         extent: u16,
         used: u8,
-        blocks: Blocks,
+        blocks: [Block; MOST_BLOCKS],
     },
     Seek {
         whence: u8,
@@ -44,7 +45,7 @@ pub enum LineCall {
 }
 
 // What an event calls: a call of a lane, one on the whole line, or none, where its kind is not listed.
-#[derive(Clone, Copy)]
+#[derive(Clone, Copy, Debug, PartialEq, Eq)]
 pub enum Scope {
     Lane { lane: u8, call: LaneCall },
     Line { call: LineCall },

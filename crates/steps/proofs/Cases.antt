@@ -1,4 +1,5 @@
 -- What an accepted step is, case by case, with its tests as facts. Later proofs have a clause for each case.
+use mathlib.Core.List.{List}
 use Prim.Native.Nat.{ℕ, ◌+◌, ◌≤◌, ◌<◌}
 use mathlib.Core.Path.{◌≡◌, refl, sym, ap, ◌∙◌, subst}
 use mathlib.Core.Bool.{Bool, true, false, not, ◌&&◌, ◌||◌}
@@ -16,12 +17,13 @@ use Rattle.limits.specs.Limits.{least_capacity, most_capacity, most_lanes, most_
 use Rattle.line.specs.Line.{holds_shared, holds_whole, is_gathered, is_holding, is_idle, is_idle_or_gathered, is_shared_read, is_shared_write, is_whole_book, left_in, on, phase_at, place_in, purpose_in}
 use Rattle.line.specs.Sound.{gathered_total}
 use Rattle.line.proofs.Phases.{holding_is, idle_is, reading_is, woken_is, writing_is}
+use Rattle.view.specs.declared.Block.{Block}
 use Rattle.event.specs.Event.{Call, cut_short, given}
-use Rattle.event.specs.declared.Blocks.{Blocks}
 use Rattle.event.specs.declared.Event.{Event}
 use Rattle.steps.specs.State.{Result, State}
 use Rattle.steps.specs.Effects.{Search, effect, entered, enter_step, free_step, look_step, open_step, purpose_of, put_step, read_step, receive_step, seek_step, seek_target, take_step, view_of, view_step, want_step, write_step}
-use Rattle.steps.specs.Refusals.{allows, is_outside, no_wake_yet, phase_of}
+use Rattle.steps.proofs.Chains.{blocks_of_numbers}
+use Rattle.steps.specs.Refusals.{view_in, allows, is_outside, no_wake_yet, phase_of}
 use Rattle.steps.specs.Step.{refuse, step_by}
 use Rattle.steps.proofs.CheckingOrder.{Decided, NotApplies, accepted, decided, refused}
 
@@ -52,7 +54,7 @@ pub data Steps (search : Search) (x : State) : Call → Result → Type 0 where
   enters : (i c : ℕ) → i < x.line.lanes → phase_at x.line i ≡ Phase.Idle → all_pass (on is_idle_or_gathered) x.line.lane ≡ true
       → fits x.line.view x.line.capacity x.line.pointer (gathered_total (entered x.line i c)) ≡ true
       → Steps search x (given (Event.Enter i c)) (enter_step x i c)
-  views : (displacement extent used : ℕ) (blocks : Blocks) → 0 < x.line.lanes
+  views : (displacement extent used : ℕ) (blocks : List Block) → 0 < x.line.lanes
       → view_ok x.line.capacity (view_of displacement extent used blocks) ≡ true → all_pass (on is_idle) x.line.lane ≡ true
       → Steps search x (given (Event.View displacement extent used blocks)) (view_step x (view_of displacement extent used blocks))
   seeks : (whence : ℕ) (offset : ℤ) (n : ℕ) → 0 < x.line.lanes → seek_target x.line whence offset ≡ pos n → n ≤ most_pointer → all_pass (on is_idle) x.line.lane ≡ true
@@ -142,7 +144,8 @@ module _ (search : Search) (x : State) where
   accepted_case (Event.Enter i c) f =
       enters i c (leb-false x.line.lanes i (f 8)) (idle_is _ (allow (Event.Enter i c) f)) (not-false _ (f 11)) (not-false _ (f 16))
   accepted_case (Event.View displacement extent used blocks) f =
-      views displacement extent used blocks (not_zero x.line.lanes (f 4)) (not-false _ (f 10)) (or_not (all_pass (on is_idle) x.line.lane) (f 11))
+      let ok = not-false (view_ok x.line.capacity (view_in (Event.View displacement extent used blocks))) (f 10) in
+      views displacement extent used blocks (not_zero x.line.lanes (f 4)) (rw (blocks_of_numbers blocks) at ok) (or_not (all_pass (on is_idle) x.line.lane) (f 11))
   accepted_case (Event.Seek whence offset) f =
       let r = inside_is (seek_target x.line whence offset) (f 15) in
       subst (λ (z : ℤ). Steps search x (given (Event.Seek whence offset)) (seek_step x z)) (sym r.1)

@@ -1,6 +1,7 @@
 -- Each kind's step as the chain of just those tests that the kind can fail, in the order of the refusals.
+use mathlib.Core.List.{List, [], ◌∷◌}
 use Prim.Native.Nat.{ℕ, ◌+◌}
-use mathlib.Core.Path.{◌≡◌, refl}
+use mathlib.Core.Path.{◌≡◌, refl, ap}
 use mathlib.Core.Bool.{cond, not, ◌&&◌, and-true, or-false}
 use lib.ListN.{length}
 use lib.IntN.{ℤ}
@@ -11,13 +12,18 @@ use Rattle.view.specs.declared.Place.{Place}
 use Rattle.limits.specs.Limits.{least_capacity, most_capacity, most_lanes, most_pointer}
 use Rattle.line.specs.Line.{holds_shared, holds_whole, is_gathered, is_idle, is_idle_or_gathered, is_reading, is_shared_read, is_shared_write, is_waiting, is_woken, is_writing, on, phase_at, place_in, purpose_in}
 use Rattle.line.specs.Sound.{gathered_total, sound}
-use Rattle.event.specs.Event.{cut_short, given}
-use Rattle.event.specs.declared.Blocks.{Blocks}
+use Rattle.view.specs.declared.Block.{Block}
+use Rattle.event.specs.Event.{block_numbers, cut_short, given}
 use Rattle.event.specs.declared.Event.{Event}
 use Rattle.steps.specs.State.{Result, State}
 use Rattle.steps.specs.Effects.{Search, entered, enter_step, free_step, look_step, open_step, purpose_of, put_step, read_step, receive_step, seek_step, seek_target, take_step, view_of, view_step, want_step, write_step}
-use Rattle.steps.specs.Refusals.{is_outside}
+use Rattle.steps.specs.Refusals.{blocks_of, is_outside}
 use Rattle.steps.specs.Step.{refuse, step_by}
+
+-- ---- blocks are made again of their numbers
+pub blocks_of_numbers : (bs : List Block) → blocks_of (block_numbers bs) ≡ bs
+blocks_of_numbers [] = refl
+blocks_of_numbers (b ∷ bs) = ap (λ (l : List Block). b ∷ l) (blocks_of_numbers bs)
 
 -- ---- the tests that come first
 abbrev pub when_sound_lem : State → Result → Result
@@ -121,13 +127,13 @@ module _ (search : Search) (x : State) where
   enter_chain i c = rw (and-true (not (is_idle (phase_at x.line i))))
 
   -- 0B: 4 10 11
-  pub view_chain : (displacement extent used : ℕ) (blocks : Blocks)
+  pub view_chain : (displacement extent used : ℕ) (blocks : List Block)
       → step_by search x (given (Event.View displacement extent used blocks))
       ≡ when_open_lem x
       (cond (not (view_ok x.line.capacity (view_of displacement extent used blocks))) (refuse 10 x)
       (cond (not (all_pass (on is_idle) x.line.lane)) (refuse 11 x) (view_step x (view_of displacement extent used blocks))))
   unfolding step_by
-  view_chain displacement extent used blocks = rw (or-false (not (all_pass (on is_idle) x.line.lane)))
+  view_chain displacement extent used blocks = rw (blocks_of_numbers blocks, or-false (not (all_pass (on is_idle) x.line.lane)))
 
   -- 0C: 4 9 11 15
   pub seek_chain : (whence : ℕ) (offset : ℤ)

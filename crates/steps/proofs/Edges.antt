@@ -1,4 +1,5 @@
 -- Edges of the steps: what the mistakes that document 01 names, and others near them, would break.
+use Rattle.std.specs.Prelude.{Option, Some, None}
 use Prim.Native.Nat.{ℕ, zero, suc, ◌+◌, ◌-◌, ◌≤◌, ◌<◌}
 use mathlib.Core.Path.{◌≡◌, refl, sym, ap, ◌∙◌}
 use mathlib.Core.Logic.{◌≢◌}
@@ -24,7 +25,6 @@ use Rattle.limits.specs.Limits.{most_pointer}
 use Rattle.line.specs.Line.{count_in, idle_lane, is_gathered, is_idle, is_waiting, is_woken, lane, on, phase_at, place_in}
 use Rattle.line.specs.Sound.{gathered_total, sound}
 use Rattle.waitlist.specs.NextLane.{first_raised, next_lane}
-use Rattle.waitlist.specs.declared.Wakes.{Wakes}
 use Rattle.event.specs.BigEndian.{big_endian, number_of}
 use Rattle.event.specs.Event.{given}
 use Rattle.event.specs.declared.Event.{Event}
@@ -148,30 +148,30 @@ pub free_wakes : (search : Search) (x : State) (i : ℕ) → Accepts search x (E
 free_wakes search x i a = ap (λ (r : Result). r.answer) (takes_effect search x (Event.Free i) a)
 
 -- a lane alone wakes none
-none_raised : (f : List ℕ) (i c : ℕ) → all_pass (eqb 0) f ≡ true → first_raised f i c ≡ Wakes.None
+none_raised : (f : List ℕ) (i c : ℕ) → all_pass (eqb 0) f ≡ true → first_raised f i c ≡ None
 unfolding first_raised
 none_raised f i zero h = refl
 none_raised f i (suc c) h =
     let z : 0 ≡ get_or f i 0 = eqb-true 0 (get_or f i 0) (all_get_d (eqb 0) f i 0 h refl) in
     rw (← z) (none_raised f (i + 1) c h)
 
-none_next : (lanes : ℕ) (f : List ℕ) (i : ℕ) → all_pass (eqb 0) f ≡ true → next_lane lanes f i ≡ Wakes.None
+none_next : (lanes : ℕ) (f : List ℕ) (i : ℕ) → all_pass (eqb 0) f ≡ true → next_lane lanes f i ≡ None
 unfolding next_lane
 none_next lanes f i h = rw (none_raised f (i + 1) (lanes - (i + 1)) h, none_raised f 0 lanes h)
 
 pub take_alone : (x : State) (i c : ℕ) → others_down x.line i ≡ true → Accepts next_lane x (Event.Take i c)
-    → (step_by next_lane x (given (Event.Take i c))).answer ≡ Answer.Region (place_in (phase_at x.line i)) c Wakes.None
+    → (step_by next_lane x (given (Event.Take i c))).answer ≡ Answer.Region (place_in (phase_at x.line i)) c None
 take_alone x i c h a =
-    take_region next_lane x i c a ∙ ap (λ (w : Wakes). Answer.Region (place_in (phase_at x.line i)) c w) (none_next x.line.lanes (set x.line.flag i 0) i h)
+    take_region next_lane x i c a ∙ ap (λ (w : Option ℕ). Answer.Region (place_in (phase_at x.line i)) c w) (none_next x.line.lanes (set x.line.flag i 0) i h)
 
 pub free_alone : (x : State) (i : ℕ) → others_down x.line i ≡ true → Accepts next_lane x (Event.Free i)
-    → (step_by next_lane x (given (Event.Free i))).answer ≡ Answer.Freed Wakes.None
+    → (step_by next_lane x (given (Event.Free i))).answer ≡ Answer.Freed None
 free_alone x i h a = free_wakes next_lane x i a ∙ ap Answer.Freed (none_next x.line.lanes (set x.line.flag i 0) i h)
 
 -- the releaser's flag is down afterwards
-wake_flags : (l : Line) (w : Wakes) → (wake l w).flag ≡ l.flag
-wake_flags l (Wakes.Lane w) = refl
-wake_flags l Wakes.None = refl
+wake_flags : (l : Line) (w : Option ℕ) → (wake l w).flag ≡ l.flag
+wake_flags l (Some w) = refl
+wake_flags l None = refl
 
 released_down : (search : Search) (l : Line) (i : ℕ) (y : Phase) (k : Place) → get_or (released search (lowered l i y k) i).flag i 0 ≡ 0
 released_down search l i y k =
@@ -187,7 +187,7 @@ free_lowers search x i a =
 
 -- the wake carries the pointer as the release leaves it
 carries : (search : Search) (l : Line) (i w : ℕ) (y : Phase) (k : Place) (p : Purpose) → w ≢ i → w < length l.lane → phase_at l w ≡ Phase.Waiting p
-    → search l.lanes (set l.flag i 0) i ≡ Wakes.Lane w → phase_at (released search (lowered l i y k) i) w ≡ Phase.Woken p k
+    → search l.lanes (set l.flag i 0) i ≡ Some w → phase_at (released search (lowered l i y k) i) w ≡ Phase.Woken p k
 carries search l i w y k p n h e q =
     let between = other_phase l i w y n ∙ e in
     let g : w < length (placed l i y) = rw (length-set l.lane i (lane y)) h in
@@ -198,21 +198,21 @@ module _ (search : Search) (x : State) (i w : ℕ) (p q : Purpose) (v : Place) (
   others holds z = let e : Phase.Waiting p ≡ Phase.Holding q v = sym waits ∙ ap (phase_at x.line) z ∙ holds in
       let o : ◌≡◌ {A = ℕ} 0 1 = cc in omega arith
 
-  pub take_carries : (c : ℕ) → phase_at x.line i ≡ Phase.Holding q v → (step_by search x (given (Event.Take i c))).answer ≡ Answer.Region v c (Wakes.Lane w)
+  pub take_carries : (c : ℕ) → phase_at x.line i ≡ Phase.Holding q v → (step_by search x (given (Event.Take i c))).answer ≡ Answer.Region v c (Some w)
       → phase_at (left_by search x (Event.Take i c)).line w ≡ Phase.Woken p (place (v.0 + c))
   take_carries c holds e =
       let a : Accepts search x (Event.Take i c) = ap (λ (b : Answer). (said_by b).accepted) e in
       let r = sym (take_region search x i c a) ∙ e in
-      let s : search x.line.lanes (set x.line.flag i 0) i ≡ Wakes.Lane w = cc in
+      let s : search x.line.lanes (set x.line.flag i 0) i ≡ Some w = cc in
       by_effect search x (Event.Take i c) (λ (r : Result). phase_at r.after.line w ≡ Phase.Woken p (place (v.0 + c))) a
       (rw holds (carries search x.line i w (busy_for q c v) (place (v.0 + c)) p (others holds) h waits s))
 
-  pub free_carries : phase_at x.line i ≡ Phase.Holding q v → (step_by search x (given (Event.Free i))).answer ≡ Answer.Freed (Wakes.Lane w)
+  pub free_carries : phase_at x.line i ≡ Phase.Holding q v → (step_by search x (given (Event.Free i))).answer ≡ Answer.Freed (Some w)
       → phase_at (left_by search x (Event.Free i)).line w ≡ Phase.Woken p x.line.pointer
   free_carries holds e =
       let a : Accepts search x (Event.Free i) = ap (λ (b : Answer). (said_by b).accepted) e in
       let r = sym (free_wakes search x i a) ∙ e in
-      let s : search x.line.lanes (set x.line.flag i 0) i ≡ Wakes.Lane w = cc in
+      let s : search x.line.lanes (set x.line.flag i 0) i ≡ Some w = cc in
       by_effect search x (Event.Free i) (λ (r : Result). phase_at r.after.line w ≡ Phase.Woken p x.line.pointer) a
       (carries search x.line i w Phase.Idle x.line.pointer p (others holds) h waits s)
 

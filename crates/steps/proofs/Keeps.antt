@@ -1,4 +1,5 @@
 -- An accepted call leaves a sound line sound: reached from opening or not, for any length of the lent buffer.
+use Rattle.std.specs.Prelude.{Option, Some, None}
 use Prim.Native.Nat.{ℕ, zero, suc, ◌+◌, ◌-◌, ◌≤◌, ◌<◌, min, max}
 use mathlib.Core.Path.{◌≡◌, refl, sym, ap, ◌∙◌}
 use mathlib.Core.Bool.{Bool, true, false, cond, ◌&&◌, ◌||◌}
@@ -27,7 +28,6 @@ use Rattle.line.specs.Sound.{apart, gathered_total, numbers_ok, region_end, regi
 use Rattle.line.proofs.Phases.{flag_down, no_overlap, no_region, no_value, one_up}
 use Rattle.line.proofs.Facts.{Facts, Good, OpenNumbers, good_of, open_ok, sound_of, when_open}
 use Rattle.waitlist.specs.NextLane.{next_lane}
-use Rattle.waitlist.specs.declared.Wakes.{Wakes}
 use Rattle.event.specs.BigEndian.{big_endian}
 use Rattle.event.specs.Event.{Call}
 use Rattle.steps.specs.State.{Result, State, with_phase, with_pointer, with_size, with_view}
@@ -363,9 +363,9 @@ keeps_facts {x} G (seeks whence offset n z t m g) = idle_facts x.line G.facts x.
 
 -- ---- the numbers after a step: the lanes' phases and the flags are no part of them
 -- a wake changes none of the numbers
-wake_numbers : (t : Line) (w : Wakes) (b : ℕ) → numbers_ok t b ≡ true → numbers_ok (wake t w) b ≡ true
-wake_numbers t (Wakes.Lane i) b e = e
-wake_numbers t Wakes.None b e = e
+wake_numbers : (t : Line) (w : Option ℕ) (b : ℕ) → numbers_ok t b ≡ true → numbers_ok (wake t w) b ≡ true
+wake_numbers t (Some i) b e = e
+wake_numbers t None b e = e
 
 -- a record that fits ends within the capacity
 pub record_ends : (v : View) (capacity : ℕ) (k : Place) → fits v capacity k 1 ≡ true → record_end v k ≤ capacity

@@ -1,20 +1,20 @@
 -- The number of lanes changes by an opening alone.
+use Rattle.std.specs.Prelude.{Option, Some, None}
 use Prim.Native.Nat.{ℕ}
 use mathlib.Core.Path.{◌≡◌, refl}
 use Rattle.lists.proofs.Tests.{by_test}
 use Rattle.line.specs.declared.Line.{Line}
 use Rattle.line.specs.declared.Phase.{Phase}
 use Rattle.line.specs.declared.Purpose.{Purpose}
-use Rattle.waitlist.specs.declared.Wakes.{Wakes}
 use Rattle.event.specs.Event.{Call, given}
 use Rattle.event.specs.declared.Event.{Event}
 use Rattle.steps.specs.Effects.{Search, all_entered, entered, freed, next_of, others_down, taken, wake}
 use Rattle.steps.specs.State.{Result, State}
 use Rattle.steps.proofs.Cases.{Steps, enters, frees, looks, opens, puts, reads, receives, refuses, seeks, take_reads, take_writes, views, wants, writes}
 
-pub wake_lanes : (l : Line) (w : Wakes) → (wake l w).lanes ≡ l.lanes
-wake_lanes l (Wakes.Lane w) = refl
-wake_lanes l Wakes.None = refl
+pub wake_lanes : (l : Line) (w : Option ℕ) → (wake l w).lanes ≡ l.lanes
+wake_lanes l (Some w) = refl
+wake_lanes l None = refl
 
 -- N after a call: as before it, or it was an opening of an unopened line
 pub data LanesAfter (x : State) (c : Call) (r : Result) : Type 0 where

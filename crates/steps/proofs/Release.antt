@@ -1,4 +1,5 @@
 -- A release keeps a sound line sound, and wakes the nearest lane that waits.
+use Rattle.std.specs.Prelude.{Option, Some, None}
 use Prim.Native.Nat.{ℕ, ◌+◌, ◌≤◌, ◌<◌}
 use mathlib.Core.Path.{◌≡◌, refl, sym, ap, ◌∙◌}
 use mathlib.Core.Logic.{◌≢◌}
@@ -14,7 +15,6 @@ use Rattle.lists.proofs.Counts.{all_none, all_set, count_find, count_pos, count_
 use Rattle.view.specs.declared.Place.{Place}
 use Rattle.line.specs.declared.Purpose.{Purpose}
 use Rattle.line.specs.declared.Phase.{Phase}
-use Rattle.line.specs.declared.Lane.{Lane}
 use Rattle.line.specs.declared.Line.{Line}
 use Rattle.line.specs.Line.{flag_for, has_turn, idle_lane, is_flagged, is_gathered, lane, on, phase_at, purpose_in}
 use Rattle.line.specs.Sound.{apart, region_ok, value_ok}
@@ -22,7 +22,6 @@ use Rattle.line.proofs.Phases.{no_value, one_up, waiting_is}
 use Rattle.line.proofs.Facts.{Base, Facts, Gathering}
 use Rattle.waitlist.specs.Distance.{distance}
 use Rattle.waitlist.specs.NextLane.{next_lane, raised}
-use Rattle.waitlist.specs.declared.Wakes.{Wakes}
 use Rattle.waitlist.proofs.Nearest.{Next, next_found, next_none}
 use Rattle.steps.specs.State.{with_pointer}
 use Rattle.steps.specs.Effects.{lowered, next_of, released, wake, woken}
@@ -104,7 +103,7 @@ module _ (l : Line) (F : Facts l) (i : ℕ) (o y : Phase) (k : Place) (L : Leavi
   no_gathering g = absurd (omega (arith, gathered_none))
 
   -- ---- nobody waits
-  release_alone : next_of next_lane between i ≡ Wakes.None → Facts between
+  release_alone : next_of next_lane between i ≡ None → Facts between
   release_alone q =
       record {
         base = between_base;
@@ -127,7 +126,7 @@ module _ (l : Line) (F : Facts l) (i : ℕ) (o y : Phase) (k : Place) (L : Leavi
           ]
 
   -- ---- lane w is woken
-  module _ (w : ℕ) (q : next_of next_lane between i ≡ Wakes.Lane w) where
+  module _ (w : ℕ) (q : next_of next_lane between i ≡ Some w) where
     next : Next l.lanes (set l.flag i 0) i w
     next = next_found l.lanes (set l.flag i 0) i L.inside own_down w q
 
@@ -173,26 +172,26 @@ module _ (l : Line) (F : Facts l) (i : ℕ) (o y : Phase) (k : Place) (L : Leavi
           gathering = λ g. absurd (omega (arith, recounts is_gathered, gathered_none));
         }
 
-    pub woken_is : wake between (Wakes.Lane w) ≡ stored between w wakened k (set l.flag i 0)
+    pub woken_is : wake between (Some w) ≡ stored between w wakened k (set l.flag i 0)
     woken_is = ap (λ (x : Phase). stored between w (woken k x) k (set l.flag i 0)) waits
 
   pub release_facts : Facts (released next_lane between i)
   release_facts = go (next_of next_lane between i) refl
     where
-      go : (a : Wakes) → next_of next_lane between i ≡ a → Facts (wake between a)
-      go Wakes.None q = release_alone q
-      go (Wakes.Lane w) q = rw (woken_is w q) (woken_facts w q)
+      go : (a : Option ℕ) → next_of next_lane between i ≡ a → Facts (wake between a)
+      go None q = release_alone q
+      go (Some w) q = rw (woken_is w q) (woken_facts w q)
 
 module _ (l : Line) (F : Facts l) (i : ℕ) (o y : Phase) (k : Place) (L : Leaving l i o y k) where
   -- where nobody is woken no other lane is up
-  pub alone : next_of next_lane (lowered l i y k) i ≡ Wakes.None → (j : ℕ) → j < l.lanes → j ≢ i → is_flagged (phase_at l j) ≡ true → ⊥
+  pub alone : next_of next_lane (lowered l i y k) i ≡ None → (j : ℕ) → j < l.lanes → j ≢ i → is_flagged (phase_at l j) ≡ true → ⊥
   alone q j h n u =
       both (raised_up (lowered l i y k) (between_base l F i o y k L) j ∙ ap is_flagged (other_phase l i j y n) ∙ u)
       (next_none l.lanes (set l.flag i 0) i L.inside (own_down l F i o y k L) q j h)
 
   -- the lane that is woken has its wake under way, with the pointer that the release leaves
-  pub woken_now : (w : ℕ) (q : next_of next_lane (lowered l i y k) i ≡ Wakes.Lane w)
-      → phase_at (wake (lowered l i y k) (Wakes.Lane w)) w ≡ Phase.Woken (chosen l F i o y k L w q).purpose k
+  pub woken_now : (w : ℕ) (q : next_of next_lane (lowered l i y k) i ≡ Some w)
+      → phase_at (wake (lowered l i y k) (Some w)) w ≡ Phase.Woken (chosen l F i o y k L w q).purpose k
   unfolding chosen
   woken_now w q =
       ap (λ (t : Line). phase_at t w) (woken_is l F i o y k L w q)

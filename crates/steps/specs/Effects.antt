@@ -1,5 +1,5 @@
 -- Document 01, "Events": what each call answers and leaves where it is accepted.
-use Rattle.std.specs.Prelude.{ℕ, zero, suc, ◌+◌, ◌-◌, max, Bool, cond, List, [], ◌∷◌, ◌++◌, drop, replicate, set, take, ℤ, pos, negsuc, ◌+ℤ◌, leb, eqb}
+use Rattle.std.specs.Prelude.{Option, Some, None, ℕ, zero, suc, ◌+◌, ◌-◌, max, Bool, cond, List, [], ◌∷◌, ◌++◌, drop, replicate, set, take, ℤ, pos, negsuc, ◌+ℤ◌, leb, eqb}
 use Rattle.std.proofs.lemmas.List.Edits.{sets}
 use Rattle.lists.specs.Lists.{all_pass, count_pass}
 use Rattle.view.specs.View.{end_of_book, place, plain_view, position_of, record_end}
@@ -12,10 +12,9 @@ use Rattle.line.specs.declared.Line.{Line}
 use Rattle.limits.specs.Limits.{most_lanes}
 use Rattle.line.specs.Line.{count_in, idle_lane, is_gathered, is_reading, is_waiting, is_writing, lane, left_in, on, phase_at, place_in, purpose_in}
 use Rattle.line.specs.Sound.{gathered_total}
-use Rattle.waitlist.specs.declared.Wakes.{Wakes}
-use Rattle.event.specs.BigEndian.{big_endian, number_of}
+use Rattle.view.specs.declared.Block.{Block}
 use Rattle.event.specs.Event.{block_list}
-use Rattle.event.specs.declared.Blocks.{Blocks}
+use Rattle.event.specs.BigEndian.{big_endian, number_of}
 use Rattle.event.specs.declared.Event.{Event}
 use Rattle.steps.specs.State.{Result, State, leaves, with_flag, with_lanes, with_phase, with_pointer, with_size, with_view}
 use Rattle.steps.specs.declared.Answer.{Answer}
@@ -66,9 +65,9 @@ receive_step x i p = leaves (Answer.Holds (place_in p)) (with_phase x.line i (Ph
 abbrev pub woken : Place → Phase → Phase
 woken v x = cond (is_waiting x) (Phase.Woken (purpose_in x) v) x
 
-abbrev pub wake : Line → Wakes → Line
-wake l (Wakes.Lane w) = with_phase l w (woken l.pointer (phase_at l w))
-wake l Wakes.None = l
+abbrev pub wake : Line → Option ℕ → Line
+wake l (Some w) = with_phase l w (woken l.pointer (phase_at l w))
+wake l None = l
 
 -- the releaser with its flag down and in its next phase, and the pointer set to v
 abbrev pub lowered : Line → ℕ → Phase → Place → Line
@@ -76,9 +75,9 @@ lowered l i p v = with_pointer (with_phase (with_flag l i 0) i p) v
 
 -- how a release finds the lane to wake, from N, the flags and the releaser: `next_lane`, and in a trial another way
 abbrev pub Search : Type 0
-Search = ℕ → List ℕ → ℕ → Wakes
+Search = ℕ → List ℕ → ℕ → Option ℕ
 
-abbrev pub next_of : Search → Line → ℕ → Wakes
+abbrev pub next_of : Search → Line → ℕ → Option ℕ
 next_of search l i = search l.lanes l.flag i
 
 abbrev pub released : Search → Line → ℕ → Line
@@ -173,7 +172,7 @@ enter_step x i c =
     (leaves Answer.Gathered (with_lanes x.line (entered x.line i c)) x.book)
 
 -- ---- 0B view: "Pointer becomes 0"
-abbrev pub view_of : ℕ → ℕ → ℕ → Blocks → View
+abbrev pub view_of : ℕ → ℕ → ℕ → List Block → View
 view_of displacement extent used blocks = record { displacement = displacement; extent = extent; used = used; block = block_list blocks }
 
 abbrev pub view_step : State → View → Result

@@ -10,7 +10,7 @@ use Rattle.line.specs.declared.Phase.{Phase}
 use Rattle.line.specs.Line.{holds_shared, holds_whole, is_gathered, is_idle, is_idle_or_gathered, is_reading, is_shared_read, is_shared_write, is_waiting, is_woken, is_writing, on, phase_at, place_in, purpose_in}
 use Rattle.line.specs.Sound.{gathered_total, sound}
 use Rattle.event.specs.Kinds.{is_listed, kind_at}
-use Rattle.event.specs.Event.{Call, cut_short, fields_of, given, kind_of, offset_in}
+use Rattle.event.specs.Event.{Call, block_list, cut_short, fields_of, given, kind_of, offset_in}
 use Rattle.event.specs.declared.Event.{Event}
 use Rattle.steps.specs.State.{State}
 use Rattle.steps.specs.Effects.{entered, seek_target}
@@ -32,14 +32,14 @@ lane_of e = field 0 e
 abbrev pub phase_of : State → Event → Phase
 phase_of x e = phase_at x.line (lane_of e)
 
--- the view of a view event: its fields displacement, extent, blocks in use, and then starts and lengths
+-- the view of a view event: its fields displacement, extent, blocks in use, and then the starts and lengths of eight blocks
 abbrev pub blocks_of : List ℕ → List Block
 blocks_of [] = []
 blocks_of (start ∷ []) = []
 blocks_of (start ∷ length ∷ more) = block start length ∷ blocks_of more
 
 abbrev pub view_in : Event → View
-view_in e = record { displacement = field 0 e; extent = field 1 e; used = field 2 e; block = blocks_of (drop 3 (fields_of e)) }
+view_in e = record { displacement = field 0 e; extent = field 1 e; used = field 2 e; block = block_list (blocks_of (drop 3 (fields_of e))) }
 
 -- ---- a reason: its number in document 01 and its test
 pub record Reason : Type 0 where

@@ -3,10 +3,9 @@
 
 use line::Line;
 use view::{Place, Position};
-use waitlist::Wakes;
 
-// The answer to a call, a case for each word of document 01, and a refusal with its number. `content` is a record, as a number.
-#[derive(Clone, Copy)]
+// The answer to a call, a case for each word that is printed, and a refusal with its number. `content` is a record, as a number.
+#[derive(Clone, Copy, Debug, PartialEq, Eq)]
 pub enum Answer {
     Open {
         lanes: u8,
@@ -19,7 +18,7 @@ pub enum Answer {
     Region {
         start: Place,
         count: u16,
-        wakes: Wakes,
+        wakes: Option<u8>,
     },
     Wrote {
         position: Position,
@@ -29,7 +28,7 @@ pub enum Answer {
     },
     None,
     Freed {
-        wakes: Wakes,
+        wakes: Option<u8>,
     },
     Gathered,
     Ordered {
@@ -40,13 +39,14 @@ pub enum Answer {
     Seek {
         pointer: Place,
     },
+    // A number and no `Refusal`: answers of any number are printed and stored.
     Refused {
         number: u8,
     },
 }
 
 // What a call gives: the line as it leaves it, and its answer.
-#[derive(Clone, Copy)]
+#[derive(Clone, Copy, Debug, PartialEq, Eq)]
 pub struct Outcome {
     pub line: Line,
     pub answer: Answer,

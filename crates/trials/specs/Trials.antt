@@ -1,7 +1,6 @@
 -- Lists of calls to try demand 3 on, by trials/Trials: long_told, long_not_yet, long_woken, within_126_fails, mixed_places, mixed_lanes, and, for a search from lane 0, from_zero_fails.
-use Rattle.std.specs.Prelude.{ℕ, zero, suc, ◌+◌, List, [], ◌∷◌, ◌++◌, replicate}
+use Rattle.std.specs.Prelude.{Option, ℕ, zero, suc, ◌+◌, List, [], ◌∷◌, ◌++◌, replicate}
 use Rattle.waitlist.specs.NextLane.{first_raised}
-use Rattle.waitlist.specs.declared.Wakes.{Wakes}
 use Rattle.trace.specs.Trace.{CallBytes}
 
 abbrev pub call : ℕ → List ℕ → CallBytes
@@ -71,7 +70,7 @@ mixed =
     ∷ []
 
 -- ---- a search from lane 0 at each release: lanes 0 and 1 take turns, and lane 2 is never woken
-abbrev pub from_zero : ℕ → List ℕ → ℕ → Wakes
+abbrev pub from_zero : ℕ → List ℕ → ℕ → Option ℕ
 from_zero lanes flags releaser = first_raised flags 0 lanes
 
 abbrev pub zero_early : List CallBytes
