@@ -6,11 +6,12 @@ ghost use Rattle.event.specs.declared.Event.{Event};
 ghost use Rattle.steps.specs.Meets.{Meets, state_of};
 ghost use Rattle.steps.specs.Step.{call_event};
 
-use event::{Blocks, Event};
+use event::Event;
 use event_calls::call_event;
+use limits::MOST_BLOCKS;
 use line::Line;
 use steps::Outcome;
-use view::Place;
+use view::{Block, Place};
 
 // 01: opens the line and zeroes the book's capacity bytes.
 pub fn open(line: Line, book: &mut [u8], lanes: u8, capacity: u32) -> Outcome
@@ -97,7 +98,7 @@ pub fn set_view(
     displacement: u32,
     extent: u16,
     used: u8,
-    blocks: Blocks,
+    blocks: [Block; MOST_BLOCKS],
 ) -> Outcome
     ensures { Meets (call_event (state_of line book.old) (Event.View displacement extent used blocks)) result book.new }
 {

@@ -2,57 +2,39 @@
 use line::{Phase, Purpose};
 use steps::Answer;
 use view::Place;
-use waitlist::Wakes;
 
 pub fn text(words: &[u8]) {
     io::write_all(1, words);
 }
 
 // What comes before a number, and the number in decimal.
-pub fn number(lead: &[u8], value: u64) {
+pub fn number<N: Into<u64>>(lead: &[u8], value: N) {
     io::write_all(1, lead);
-    io::print_decimal(1, value);
-}
-
-pub fn wide8(x: u8) -> u64 {
-    x as u64
-}
-
-pub fn wide16(x: u16) -> u64 {
-    x as u64
-}
-
-pub fn wide32(x: u32) -> u64 {
-    x as u64
+    io::print_decimal(1, value.into());
 }
 
 // Two hexadecimal digits for each byte.
 pub fn digits(bytes: &[u8]) {
     for byte in bytes {
-        io::print_hex(1, wide8(*byte), 2);
+        io::print_hex(1, u64::from(*byte), 2);
     }
 }
 
 fn print_place(lead: &[u8], place: Place) {
-    number(lead, wide32(place.0));
+    number(lead, place.0);
 }
 
-fn print_wakes(lead: &[u8], wakes: Wakes) {
+fn print_wakes(lead: &[u8], wakes: Option<u8>) {
     text(lead);
     match wakes {
-        Wakes::Lane(lane) => number(b" wakes ", wide8(lane)),
-        Wakes::None => text(b" wakes none"),
+        Some(lane) => number(b" wakes ", lane),
+        None => text(b" wakes none"),
     }
 }
 
-fn print_two(lead: &[u8], first: u64, second: u64) {
-    number(lead, first);
-    number(b" ", second);
-}
-
-fn print_region(start: Place, count: u16, wakes: Wakes) {
-    number(b"region ", wide32(start.0));
-    number(b" ", wide16(count));
+fn print_region(start: Place, count: u16, wakes: Option<u8>) {
+    number(b"region ", start.0);
+    number(b" ", count);
     print_wakes(b"", wakes);
 }
 
@@ -64,7 +46,10 @@ fn print_record(content: u64) {
 // The answer in document 01's words.
 pub fn print_answer(answer: Answer) {
     match answer {
-        Answer::Open { lanes, capacity } => print_two(b"open ", wide8(lanes), wide32(capacity)),
+        Answer::Open { lanes, capacity } => {
+            number(b"open ", lanes);
+            number(b" ", capacity);
+        }
         Answer::Holds { pointer } => print_place(b"holds ", pointer),
         Answer::Waits => text(b"waits"),
         Answer::Region {
@@ -77,14 +62,13 @@ pub fn print_answer(answer: Answer) {
         Answer::None => text(b"none"),
         Answer::Freed { wakes } => print_wakes(b"freed", wakes),
         Answer::Gathered => text(b"gathered"),
-        Answer::Ordered { before, total } => print_two(
-            b"ordered ",
-            wide32(before.0),
-            wide32(total),
-        ),
+        Answer::Ordered { before, total } => {
+            number(b"ordered ", before.0);
+            number(b" ", total);
+        }
         Answer::View => text(b"view"),
         Answer::Seek { pointer } => print_place(b"seek ", pointer),
-        Answer::Refused { number: reason } => number(b"refused ", wide8(reason)),
+        Answer::Refused { number: reason } => number(b"refused ", reason),
     }
 }
 
@@ -103,7 +87,7 @@ fn print_turn(lead: &[u8], purpose: Purpose, value: Place) {
 }
 
 fn print_busy(lead: &[u8], left: u16, next: Place) {
-    number(lead, wide16(left));
+    number(lead, left);
     print_place(b" from ", next);
 }
 
@@ -115,6 +99,6 @@ pub fn print_phase(phase: Phase) {
         Phase::Holding(purpose, value) => print_turn(b" holding", purpose, value),
         Phase::BusyWriting { left, next } => print_busy(b" writing ", left, next),
         Phase::BusyReading { left, next } => print_busy(b" reading ", left, next),
-        Phase::Gathered(count) => number(b" gathered with ", wide16(count)),
+        Phase::Gathered(count) => number(b" gathered with ", count),
     }
 }

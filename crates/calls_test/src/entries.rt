@@ -1,16 +1,16 @@
 // A case: a call on a line and a fresh book, then all that it did.
 use crate::book::fill;
 use crate::differences::tell;
-use event::{Event, Reading};
+use event::Event;
 use line::Line;
 use steps::Outcome;
 
 // The event of a kind and a body; of an unlisted kind the unlisted one.
 fn event_of(kind: u8, body: &[u8]) -> Event {
-    let Reading::Event { event, next: _ } = decode::read_body(kind, body, 0) else {
-        return Event::Unlisted;
-    };
-    event
+    match decode::read_body(kind, body, 0) {
+        Ok(Some((event, _))) => event,
+        _ => Event::Unlisted,
+    }
 }
 
 // The entry for an event's kind, with the event's fields.

@@ -7,7 +7,6 @@ mod differences;
 mod entries;
 mod hex;
 mod lines;
-mod same;
 mod script;
 
 fn main() {

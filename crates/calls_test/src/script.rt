@@ -18,25 +18,17 @@ fn run_case(word: u8, label: &[u8], line: Line, kind: u8, body: &[u8]) {
 // A line of text that is a case: word, kind and body (the first n bytes), a colon and its label.
 fn read_case(text: &[u8], word: u8, line: Line, bytes: &[u8], n: usize) {
     let colon = find(text, b':', 0);
-    if text.len() - colon < 2 {
+    if text.len() - colon < 2 || n < 1 || bytes.len() < n {
         return;
     }
-    if bytes.len() < n {
-        return;
-    }
-    if n < 1 {
-        return;
-    }
-    let start = colon + 2;
-    run_case(word, &text[start..], line, bytes[0], &bytes[1..n]);
+    run_case(word, &text[colon + 2..], line, bytes[0], &bytes[1..n]);
 }
 
 // The line after a line of text, by the word that it starts with; other words are remarks.
 fn step(line: Line, text: &[u8], bytes: &[u8; 64], n: usize) -> Line {
-    if text.len() < 1 {
+    let Some(&word) = text.first() else {
         return line;
-    }
-    let word = text[0];
+    };
     match word {
         b'n' => new_line(bytes),
         b'l' => set_lane(line, bytes),
@@ -59,14 +51,7 @@ fn run_text(line: Line, text: &[u8]) -> Line {
 
 pub fn run(script: &[u8]) {
     let mut line = Line::unopened();
-    let mut at: usize = 0;
-    while at < script.len() {
-        let end = find(script, b'\n', at);
-        let next = run_text(line, &script[at..end]);
-        line = next;
-        if end == script.len() {
-            return;
-        }
-        at = end + 1;
+    for text in script.split(|byte| *byte == b'\n') {
+        line = run_text(line, text);
     }
 }

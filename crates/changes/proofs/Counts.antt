@@ -1,4 +1,5 @@
 -- The counts of all lanes after a change of one.
+use Rattle.std.specs.Prelude.{Option, Some, None}
 use Prim.Native.Nat.{ℕ, ◌+◌, ◌-◌, ◌<◌}
 use mathlib.Core.Path.{◌≡◌, refl, ap, ◌∙◌}
 use mathlib.Core.List.{List}
@@ -14,7 +15,6 @@ use Rattle.line.specs.declared.Line.{Line}
 use Rattle.line.specs.declared.Phase.{Phase}
 use Rattle.line.specs.Line.{count_in, idle_lane, is_gathered, is_waiting, lane}
 use Rattle.line.proofs.Phases.{numbered, numbered_is}
-use Rattle.waitlist.specs.declared.Wakes.{Wakes}
 use Rattle.lane_tests.specs.Rules.{counts_of, not_idle}
 use Rattle.lane_tests.proofs.Counts.{active_has, active_set, gathered_set, total_set}
 use Rattle.steps.specs.Effects.{woken}
@@ -56,11 +56,11 @@ module _ (l : Line) (shaped : length l.lane ≡ most_lanes) (i : ℕ) (h : i < m
   own : counts_of (set l.lane i (lane c.phase)) ≡ counts_after (counts_of l.lane) (seen_of l i) c
   own = counts_set l.lane i (omega (arith, shaped)) c.phase r.gathered r.count
 
-  by_wakes : (w : Wakes) → c.wakes ≡ w → counts_of (applied l i c).lane ≡ counts_after (counts_of l.lane) (seen_of l i) c
-  by_wakes (Wakes.Lane j) e =
+  by_wakes : (w : Option ℕ) → c.wakes ≡ w → counts_of (applied l i c).lane ≡ counts_after (counts_of l.lane) (seen_of l i) c
+  by_wakes (Some j) e =
       let below : j < most_lanes = ltb-true j most_lanes (rw e at r.wakes) in
       rw e (counts_woken (set l.lane i (lane c.phase)) j (simp length-set (omega (arith, shaped, below))) c.pointer ∙ own)
-  by_wakes Wakes.None e = rw e own
+  by_wakes None e = rw e own
 
   pub counts_kept : counts_of (applied l i c).lane ≡ counts_after (counts_of l.lane) (seen_of l i) c
   counts_kept = by_wakes c.wakes refl

@@ -1,5 +1,4 @@
 -- The laws of changes.
-pub mod Arms
 pub mod Steps
 pub mod Within
 pub mod Counts

@@ -1,6 +1,7 @@
 -- How a step of document 01 is a change: the refusals, the tests of 4 and 8, and what every change of a lane's call keeps.
+use Rattle.std.specs.Prelude.{Option, Some, None}
 use Prim.Native.Nat.{ℕ, ◌≤◌, ◌<◌}
-use mathlib.Core.Path.{◌≡◌, refl, sym, ◌∙◌, subst}
+use mathlib.Core.Path.{◌≡◌, refl, sym, ap, ◌∙◌, subst}
 use mathlib.Core.Bool.{Bool, true, false, cond}
 use mathlib.Core.List.{List}
 use native.Mathlib.Omega.{arith}
@@ -9,14 +10,12 @@ use lib.ListN.{length}
 use lib.Seq.{set-get_or}
 use borrow.Author.Tests.{leb-false, lt-ltb}
 use Rattle.lists.proofs.Tests.{at_test, by_test, clash}
-use Rattle.line.specs.declared.Lane.{Lane}
 use Rattle.line.specs.declared.Line.{Line}
 use Rattle.line.specs.declared.Phase.{Phase}
 use Rattle.limits.specs.Limits.{most_lanes}
 use Rattle.line.specs.Line.{count_in, idle_lane, is_gathered, lane}
 use Rattle.line.specs.Sound.{sound}
 use Rattle.view.specs.declared.Place.{Place}
-use Rattle.waitlist.specs.declared.Wakes.{Wakes}
 use Rattle.waitlist.specs.NextLane.{next_lane}
 use Rattle.waitlist.proofs.Laws.{next_below}
 use Rattle.steps.specs.declared.Answer.{Answer}
@@ -32,6 +31,10 @@ use Rattle.changes.specs.declared.Seen.{Seen}
 -- ---- an answer that changes nothing
 pub kept_same : (l : Line) (i : ℕ) (a : Answer) → applied l i (kept_change (seen_of l i) a) ≡ l
 kept_same l i a = rw (set-get_or l.lane i idle_lane, set-get_or l.flag i 0)
+
+-- what `refuse` gives for a reason with this number
+pub refused_with : (s : Seen) (k : ℕ) {c : Change} → (j : ℕ) × (j ≡ k) × (c ≡ refused_change s j) → c ≡ refused_change s k
+refused_with s k e = e.2 ∙ ap (λ (j : ℕ). refused_change s j) e.1
 
 -- a result that is the change c of lane i; `left` is the book that an answer leaves
 pub record Gives (l : Line) (left : Answer → List ℕ) (i : ℕ) (r : Result) (c : Change) : Type 0 where
@@ -130,9 +133,9 @@ pub reading_apart : (c : ℕ) (v : Place) → is_gathered (reading c v) ≡ fals
 reading_apart c v = by_test (eqb c 0) (λ e. rw e) (λ e. rw e)
 
 -- the lane that a search finds is one of the arrays
-found_in : (lanes : ℕ) (w : Wakes) → ((j : ℕ) → w ≡ Wakes.Lane j → j < lanes) → lanes ≤ most_lanes → wakes_in w ≡ true
-found_in lanes (Wakes.Lane j) below lanes_fit = let h = below j refl in lt-ltb j most_lanes (omega arith)
-found_in lanes Wakes.None below lanes_fit = refl
+found_in : (lanes : ℕ) (w : Option ℕ) → ((j : ℕ) → w ≡ Some j → j < lanes) → lanes ≤ most_lanes → wakes_in w ≡ true
+found_in lanes (Some j) below lanes_fit = let h = below j refl in lt-ltb j most_lanes (omega arith)
+found_in lanes None below lanes_fit = refl
 
 pub next_in : (lanes : ℕ) (flags : List ℕ) (i : ℕ) → lanes ≤ most_lanes → wakes_in (next_lane lanes flags i) ≡ true
 next_in lanes flags i lanes_fit = found_in lanes (next_lane lanes flags i) (λ j e. next_below lanes flags i j e) lanes_fit

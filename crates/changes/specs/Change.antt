@@ -1,5 +1,5 @@
 -- A lane's call as a change: what it sees, and the line after it. Tied to `call_event` by lane_calls/Steps: decided_step, to `sound` by changes/Within: within_of.
-use Rattle.std.specs.Prelude.{ℕ, ◌+◌, ◌-◌, ◌%◌, ◌≤◌, Bool, true, cond, List, eqb, leb, ltb, get_or, ◌≡◌}
+use Rattle.std.specs.Prelude.{Option, Some, None, ℕ, ◌+◌, ◌-◌, ◌%◌, ◌≤◌, Bool, true, cond, List, eqb, leb, ltb, get_or, ◌≡◌}
 use Rattle.lists.specs.Lists.{bit, implies, some_pass}
 use Rattle.view.specs.View.{fits}
 use Rattle.view.specs.declared.View.{View}
@@ -9,7 +9,6 @@ use Rattle.lane_tests.specs.Rules.{not_idle}
 use Rattle.lane_tests.specs.declared.tallies.LaneCounts.{LaneCounts}
 use Rattle.limits.specs.Limits.{most_lanes, most_pointer}
 use Rattle.line.specs.Line.{is_gathered, is_writing, on, phase_at, place_in}
-use Rattle.waitlist.specs.declared.Wakes.{Wakes}
 use Rattle.steps.specs.declared.Answer.{Answer}
 use Rattle.steps.specs.declared.Outcome.{Outcome}
 use Rattle.steps.specs.State.{Result, leaves, with_flag, with_phase, with_pointer, with_size}
@@ -36,7 +35,7 @@ seen_of l i =
 
 -- an answer that changes nothing, and a refusal, which is one
 abbrev pub kept_change : Seen → Answer → Change
-kept_change s a = record { answer = a; phase = s.phase; flag = s.flag; pointer = s.pointer; size = s.size; wakes = Wakes.None }
+kept_change s a = record { answer = a; phase = s.phase; flag = s.flag; pointer = s.pointer; size = s.size; wakes = None }
 
 abbrev pub refused_change : Seen → ℕ → Change
 refused_change s k = kept_change s (Answer.Refused k)
@@ -50,9 +49,9 @@ abbrev pub lane_tested : Seen → ℕ → Change → Change
 lane_tested s i c = cond (eqb s.lanes 0) (refused_change s 4) (cond (leb s.lanes i) (refused_change s 8) c)
 
 -- the lane that is woken is one that a line can have
-abbrev pub wakes_in : Wakes → Bool
-wakes_in (Wakes.Lane w) = ltb w most_lanes
-wakes_in Wakes.None = true
+abbrev pub wakes_in : Option ℕ → Bool
+wakes_in (Some w) = ltb w most_lanes
+wakes_in None = true
 
 -- the line with a change of the lane with entry i; the lane to wake is woken with the new pointer
 abbrev pub applied : Line → ℕ → Change → Line

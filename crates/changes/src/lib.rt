@@ -1,16 +1,17 @@
 // What a lane's call sees of the line, what it changes, and a change applied to the line.
 #![tactic(auto)]
 
-ghost use Rattle.std.specs.Prelude.{◌<◌, true, ◌≡◌};
+ghost use Rattle.std.specs.Prelude.{◌<◌, true, ◌≡◌, ℕ};
 ghost use Rattle.limits.specs.Limits.{most_lanes};
+ghost use Rattle.event.specs.Refusal.{number_or_none};
 ghost use Rattle.changes.specs.Change.{entry_of, kept_change, missing_lane, outcome_of, refused_change, seen_of, wakes_in};
 
+use event::Refusal;
 use lane_tests::tallies::any_gathered;
 use limits::MOST_LANES;
-use line::{Lane, Line, Phase};
+use line::{Line, Phase};
 use steps::{Answer, Outcome};
 use view::Place;
-use waitlist::Wakes;
 
 pub mod phases;
 
@@ -34,50 +35,51 @@ pub struct Change {
     pub flag: u8,
     pub pointer: Place,
     pub size: u32,
-    pub wakes: Wakes,
+    pub wakes: Option<u8>,
 }
 
 // An answer that leaves the line as it is.
 pub fn keep(seen: Seen, answer: Answer) -> Change
     ensures { result ≡ kept_change seen answer }
 {
-    let phase = seen.phase;
-    let pointer = seen.pointer;
     Change {
         answer,
-        phase,
+        phase: seen.phase,
         flag: seen.flag,
-        pointer,
+        pointer: seen.pointer,
         size: seen.size,
-        wakes: Wakes::None,
+        wakes: None,
     }
 }
 
-// A refusal, which leaves the line as it is.
-pub fn refuse(seen: Seen, number: u8) -> Change
-    ensures { result ≡ refused_change seen number }
+// A refusal, by a reason or by its number, which leaves the line as it is.
+#[inline(always)]
+pub fn refuse<R: Into<u8>>(seen: Seen, reason: R) -> Change
+    ensures { (k : ℕ) × R.converts reason k × (result ≡ refused_change seen k) }
 {
+    let number = reason.into();
     keep(seen, Answer::Refused { number })
 }
 
-// The tests that come first in any call of a lane: 4 before the line is open, 8 where it has no such lane, and else 0.
-pub fn missing_lane(lanes: u8, lane: u8) -> u8
-    ensures { result ≡ missing_lane lanes lane }
+// The tests that come first in any call of a lane: whether the line is open, and whether it has the lane.
+#[inline(always)]
+pub fn missing_lane(lanes: u8, lane: u8) -> Option<Refusal>
+    ensures { number_or_none result ≡ missing_lane lanes lane }
 {
     if lanes == 0 {
-        return 4;
+        return Some(Refusal::NotOpen);
     }
     if lanes <= lane {
-        return 8;
+        return Some(Refusal::NoSuchLane);
     }
-    0
+    None
 }
 
 // The entry of a lane's number in the arrays: the number itself where a line can have such a lane, and else another entry.
 pub fn entry_of(lane: u8) -> usize
     ensures { (result ≡ entry_of lane) × (result < most_lanes) }
 {
-    lane as usize % MOST_LANES
+    usize::from(lane) % MOST_LANES
 }
 
 // What a call of this lane sees of the line.
@@ -85,19 +87,14 @@ pub fn see(line: Line, lane: u8) -> Seen
     ensures { result ≡ seen_of line (entry_of lane) }
 {
     let i = entry_of(lane);
-    let all = line.lane;
-    let own = all[i];
-    let phase = own.phase;
-    let pointer = line.pointer;
-    let flag = line.flag;
     Seen {
         lanes: line.lanes,
         capacity: line.capacity,
         size: line.size,
-        pointer,
-        gathering: any_gathered(all),
-        phase,
-        flag: flag[i],
+        pointer: line.pointer,
+        gathering: any_gathered(line.lane),
+        phase: line.lane[i].phase,
+        flag: line.flag[i],
     }
 }
 
@@ -107,25 +104,17 @@ pub fn apply(line: Line, lane: u8, change: Change) -> Outcome
     ensures { result ≡ outcome_of line (entry_of lane) change }
 {
     let i = entry_of(lane);
-    let answer = change.answer;
-    let phase = change.phase;
-    let pointer = change.pointer;
-    let wakes = change.wakes;
     let mut next = line;
     next.flag[i] = change.flag;
-    next.lane[i] = Lane { phase };
-    next.pointer = pointer;
+    next.lane[i].phase = change.phase;
+    next.pointer = change.pointer;
     next.size = change.size;
-    match wakes {
-        Wakes::None => Outcome { line: next, answer },
-        Wakes::Lane(number) => {
-            let w = number as usize;
-            let woken = next.lane[w];
-            let waiting = woken.phase;
-            next.lane[w] = Lane {
-                phase: phases::wake_with(pointer, waiting),
-            };
-            Outcome { line: next, answer }
-        }
+    if let Some(number) = change.wakes {
+        let woken = usize::from(number);
+        next.lane[woken].phase = phases::wake_with(change.pointer, next.lane[woken].phase);
+    }
+    Outcome {
+        line: next,
+        answer: change.answer,
     }
 }

@@ -9,13 +9,11 @@ use view::Place;
 pub fn purpose_of(code: u8) -> Purpose
     ensures { result ≡ purpose_of code }
 {
-    if code == 0 {
-        return Purpose::SharedWrite;
+    match code {
+        0 => Purpose::SharedWrite,
+        1 => Purpose::SharedRead,
+        _ => Purpose::WholeBook,
     }
-    if code == 1 {
-        return Purpose::SharedRead;
-    }
-    Purpose::WholeBook
 }
 
 // A lane that has these records to write from a place.

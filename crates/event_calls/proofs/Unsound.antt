@@ -1,4 +1,5 @@
 -- On a line that is not sound every call is refused with 1; a call whose bytes give no event is refused with 2 or 3.
+use Rattle.std.specs.Prelude.{Some, None, Ok, Err}
 use mathlib.Core.Path.{◌≡◌, sym, ap, ◌∙◌}
 use mathlib.Core.Bool.{Bool, true, false}
 use mathlib.Core.List.{List}
@@ -10,11 +11,13 @@ use Rattle.waitlist.specs.NextLane.{next_lane}
 use Rattle.lists.proofs.Tests.{by_test, clash}
 use Rattle.event.specs.Kinds.{is_listed}
 use Rattle.event.specs.Event.{Call, cut_short, given, kind_of}
-use Rattle.event.specs.ReadWrite.{reading_of}
+use Rattle.event.specs.ReadWrite.{Reading, event_read, reading_of}
+use Rattle.event.specs.Refusal.{number_of}
 use Rattle.event.specs.declared.Cursor.{Cursor}
-use Rattle.event.specs.declared.Reading.{Reading}
+use Rattle.event.specs.declared.Refusal.{Refusal}
 use Rattle.event.specs.declared.Event.{Event}
 use Rattle.event.proofs.ByKind.{not_listed}
+use Rattle.event.proofs.Lengths.{same_event}
 use Rattle.steps.specs.Meets.{Meets, state_of}
 use Rattle.steps.specs.Step.{call_event, refuse, step_by}
 use Rattle.steps.proofs.Chains.{cut_chain, unlisted_chain, when_sound_lem}
@@ -45,51 +48,44 @@ pub unlisted_refused : (l : Line) (book : List ℕ) (o : Outcome) → sound l (l
 unlisted_refused l book o ok f = meets_refused l book 2 (unlisted_chain next_lane (state_of l book) ∙ when_sound l book ok _) f
 
 -- ---- from what was read to the call
--- the number that a reading refuses with; an event has none
-number_in : ℕ → Reading → ℕ
-number_in d (Reading.Event e next) = d
-number_in d Reading.End = d
-number_in d (Reading.Refused k) = k
-
 is_event : Reading → Bool
-is_event (Reading.Event e next) = true
-is_event Reading.End = false
-is_event (Reading.Refused k) = false
+is_event (Ok (Some e)) = true
+is_event (Ok None) = false
+is_event (Err r) = false
 
 is_end : Reading → Bool
-is_end (Reading.Event e next) = false
-is_end Reading.End = true
-is_end (Reading.Refused k) = false
+is_end (Ok (Some e)) = false
+is_end (Ok None) = true
+is_end (Err r) = false
 
-event_in : Event → Reading → Event
-event_in d (Reading.Event e next) = e
-event_in d Reading.End = d
-event_in d (Reading.Refused k) = d
+reason_in : Refusal → Reading → Refusal
+reason_in d (Ok e) = d
+reason_in d (Err r) = r
 
-pub event_call : (c : Call) (n : ℕ) (e : Event) (next : Cursor) → reading_of n c ≡ Reading.Event e next → c ≡ given e
-unfolding is_event event_in
+pub event_call : (c : Call) (n : ℕ) (e : Event) (next : Cursor) → reading_of n c ≡ event_read e next → c ≡ given e
+unfolding is_event
 event_call (given f) n e next q =
     by_test (is_listed (kind_of f))
-    (λ t. let r : Reading.Event f (record { at = n }) ≡ Reading.Event e next = rw t at q in ap given (ap (event_in e) r))
-    (λ t. let r : Reading.Refused 2 ≡ Reading.Event e next = rw t at q in clash (sym (ap is_event r)))
+    (λ t. let r : event_read f (record { at = n }) ≡ event_read e next = rw t at q in ap given (same_event f e _ next r))
+    (λ t. let r : ◌≡◌ {A = Reading} (Err Refusal.UnlistedKind) (event_read e next) = rw t at q in clash (sym (ap is_event r)))
 event_call cut_short n e next q = clash (sym (ap is_event q))
 
-pub never_end : {X : Type 0} (c : Call) (n : ℕ) → reading_of n c ≡ Reading.End → X
+pub never_end : {X : Type 0} (c : Call) (n : ℕ) → reading_of n c ≡ Ok None → X
 unfolding is_end
 never_end (given f) n q =
     by_test (is_listed (kind_of f))
-    (λ t. let r : Reading.Event f (record { at = n }) ≡ Reading.End = rw t at q in clash (sym (ap is_end r)))
-    (λ t. let r : Reading.Refused 2 ≡ Reading.End = rw t at q in clash (sym (ap is_end r)))
+    (λ t. let r : event_read f (record { at = n }) ≡ Ok None = rw t at q in clash (sym (ap is_end r)))
+    (λ t. let r : ◌≡◌ {A = Reading} (Err Refusal.UnlistedKind) (Ok None) = rw t at q in clash (sym (ap is_end r)))
 never_end cut_short n q = clash (sym (ap is_end q))
 
-pub refused_call : (l : Line) (book : List ℕ) (c : Call) (n k : ℕ) (o : Outcome) → reading_of n c ≡ Reading.Refused k → o ≡ refused_bytes l (length book) k
+pub refused_call : (l : Line) (book : List ℕ) (c : Call) (n : ℕ) (r : Refusal) (o : Outcome) → reading_of n c ≡ Err r → o ≡ refused_bytes l (length book) (number_of r)
     → Meets (step_by next_lane (state_of l book) c) o book
-unfolding is_event number_in
-refused_call l book (given f) n k o q e =
+unfolding is_event reason_in
+refused_call l book (given f) n r o q e =
     by_test (is_listed (kind_of f))
-    (λ t. let r : Reading.Event f (record { at = n }) ≡ Reading.Refused k = rw t at q in clash (ap is_event r))
-    (λ t. let r : Reading.Refused 2 ≡ Reading.Refused k = rw t at q in
-    let two : 2 ≡ k = ap (number_in 2) r in
-    rw (not_listed f t) (no_kind l book o (rw two e)))
-refused_call l book cut_short n k o q e =
-    let three : 3 ≡ k = ap (number_in 3) q in no_event l book cut_short 3 o (cut_chain next_lane (state_of l book)) (rw three e)
+    (λ t. let s : event_read f (record { at = n }) ≡ Err r = rw t at q in clash (ap is_event s))
+    (λ t. let s : ◌≡◌ {A = Reading} (Err Refusal.UnlistedKind) (Err r) = rw t at q in
+    let same : Refusal.UnlistedKind ≡ r = ap (reason_in r) s in
+    rw (not_listed f t) (no_kind l book o (rw (sym same) at e)))
+refused_call l book cut_short n r o q e =
+    let same : Refusal.CutShort ≡ r = ap (reason_in r) q in no_event l book cut_short 3 o (cut_chain next_lane (state_of l book)) (rw (sym same) at e)

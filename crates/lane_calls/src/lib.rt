@@ -18,16 +18,18 @@ use view::{Position, View};
 fn take_fits(seen: Seen, view: View, count: u16) -> bool
     ensures { result ≡ take_fits view seen count }
 {
-    let phase = seen.phase;
-    view.fits(seen.capacity, phase_tests::place_in(phase), count as u32)
+    view.fits(
+        seen.capacity,
+        phase_tests::place_in(seen.phase),
+        u32::from(count),
+    )
 }
 
 // Where the next record of a busy lane stands.
 fn next_position(seen: Seen, view: View) -> Position
     ensures { Positioned view (place_in seen.phase) result }
 {
-    let phase = seen.phase;
-    view.position(phase_tests::place_in(phase))
+    view.position(phase_tests::place_in(seen.phase))
 }
 
 // What a lane's call changes past the tests of its lane; a record that is put is stored in the book.
@@ -54,15 +56,13 @@ fn decide_at(
         ),
         LaneCall::Write { content } => {
             let change = record_calls::write(seen, next_position(seen, view));
-            let answer = change.answer;
-            record_calls::store(book, answer, content);
+            record_calls::store(book, change.answer, content);
             change
         }
         LaneCall::Read => record_calls::read(seen, next_position(seen, view), book),
         LaneCall::Put { place, content } => {
             let change = record_calls::put(seen, view.position(place));
-            let answer = change.answer;
-            record_calls::store(book, answer, content);
+            record_calls::store(book, change.answer, content);
             change
         }
         LaneCall::Look { place } => record_calls::look(seen, view.position(place), book),
@@ -82,9 +82,8 @@ pub fn decide(
     requires { Within seen view (length book.old) }
     ensures { Decision (decided_change seen lane view flags.now book.old call) call book.old result book.new }
 {
-    let missing = missing_lane(seen.lanes, lane);
-    if missing != 0 {
-        return refuse(seen, missing);
+    if let Some(reason) = missing_lane(seen.lanes, lane) {
+        return refuse(seen, reason);
     }
     decide_at(seen, lane, view, flags, book, call)
 }

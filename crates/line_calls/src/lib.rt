@@ -3,17 +3,19 @@
 
 ghost use Rattle.std.specs.Prelude.{true, ◌≡◌, length};
 ghost use Rattle.line.specs.Sound.{sound};
+ghost use Rattle.event.specs.Refusal.{number_or_none};
 ghost use Rattle.scopes.specs.Scope.{line_event};
 ghost use Rattle.steps.specs.Meets.{Meets, state_of};
 ghost use Rattle.steps.specs.Step.{call_event};
 ghost use Rattle.line_calls.specs.Refusal.{line_refusal};
 
+use event::Refusal;
 use line::Line;
 use scopes::LineCall;
 use steps::Outcome;
 use view::{Place, View};
 
-// What refuses 01, 0B or 0C, from the numbers of the line and whether all its lanes are idle; 0 for nothing, and for an enter, which `ordered_calls::admit` decides.
+// What refuses 01, 0B or 0C, from the numbers of the line and whether all its lanes are idle; nothing refuses an enter here, since `ordered_calls::admit` decides it.
 pub fn refusal_of(
     call: LineCall,
     lanes: u8,
@@ -23,16 +25,15 @@ pub fn refusal_of(
     view: View,
     idle: bool,
     buffer: usize,
-) -> u8
-    ensures { result ≡ line_refusal call lanes capacity size pointer view idle buffer }
+) -> Option<Refusal>
+    ensures { number_or_none result ≡ line_refusal call lanes capacity size pointer view idle buffer }
 {
-    let own = lanes;
-    let held = capacity;
     match call {
-        LineCall::Open { lanes, capacity } => {
-            setup_calls::open_refusal(own, lanes, capacity, buffer)
-        }
-        LineCall::Enter { .. } => 0,
+        LineCall::Open {
+            lanes: asked,
+            capacity,
+        } => setup_calls::open_refusal(lanes, asked, capacity, buffer),
+        LineCall::Enter { .. } => None,
         LineCall::View {
             displacement,
             extent,
@@ -40,10 +41,10 @@ pub fn refusal_of(
             blocks,
         } => {
             let asked = setup_calls::view_of(displacement, extent, used, blocks);
-            setup_calls::view_refusal(own, held, asked, idle)
+            setup_calls::view_refusal(lanes, capacity, asked, idle)
         }
         LineCall::Seek { whence, offset } => {
-            setup_calls::seek_refusal(own, size, pointer, view, whence, offset, idle)
+            setup_calls::seek_refusal(lanes, size, pointer, view, whence, offset, idle)
         }
     }
 }

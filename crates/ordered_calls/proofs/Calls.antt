@@ -1,11 +1,15 @@
 -- The steps of an entry from the values that the function computes.
+use Rattle.std.specs.Prelude.{Result, Ok}
 use Prim.Native.Nat.{ℕ, ◌+◌, ◌≤◌, ◌<◌}
 use mathlib.Core.Path.{◌≡◌, refl, sym, ap, ◌∙◌}
 use mathlib.Core.Bool.{Bool, true}
 use mathlib.Core.List.{List}
 use native.Mathlib.Omega.{arith}
 use lib.ListN.{length}
-use lib.Dec.{eqb}
+use lib.Dec.{eqb, leb}
+use borrow.Author.Tests.{eq-eqb, eqb-true, leb-true}
+use Rattle.lists.proofs.Tests.{by_test, clash}
+use Rattle.changes.specs.Change.{missing_lane}
 use Rattle.view.specs.View.{fits}
 use Rattle.limits.specs.Limits.{most_lanes, most_pointer}
 use Rattle.lane_tests.specs.declared.tallies.LaneCounts.{LaneCounts}
@@ -16,6 +20,7 @@ use Rattle.line.specs.declared.Line.{Line}
 use Rattle.line.specs.Sound.{sound}
 use Rattle.waitlist.specs.NextLane.{next_lane}
 use Rattle.event.specs.declared.Event.{Event}
+use Rattle.event.specs.declared.Refusal.{Refusal}
 use Rattle.steps.specs.Effects.{entered}
 use Rattle.steps.specs.Meets.{Meets, state_of}
 use Rattle.steps.specs.Step.{call_event}
@@ -31,11 +36,15 @@ meets_with : (book : List ℕ) {o p : Outcome} → o ≡ p → Meets (with_book 
 meets_with book e = record { answer = ap (λ (x : Outcome). x.answer) e; line = ap (λ (x : Outcome). x.line) e; book = refl }
 
 module _ (l : Line) (book : List ℕ) (ok : sound l (length book) ≡ true) (i c : ℕ) where
-  pub unopened_refused : (o : Outcome) → l.lanes ≡ 0 → o ≡ refused_outcome l 4 → Meets (call_event (state_of l book) (Event.Enter i c)) o book
-  unopened_refused o z e = refused_4 l book ok _ (enter_chain next_lane (state_of l book) i c) z e
-
-  pub lane_refused : (o : Outcome) → (l.lanes ≡ 0 → ⊥) → l.lanes ≤ i → o ≡ refused_outcome l 8 → Meets (call_event (state_of l book) (Event.Enter i c)) o book
-  lane_refused o n h e = refused_8 l book ok i _ (enter_chain next_lane (state_of l book) i c) n h e
+  -- a line that is not open, or has no lane i
+  pub missing_refused : (k : ℕ) (o : Outcome) → 0 < k → k ≡ missing_lane l.lanes i → o ≡ refused_outcome l k → Meets (call_event (state_of l book) (Event.Enter i c)) o book
+  missing_refused k o some is e =
+      by_test (eqb l.lanes 0)
+      (λ z. let four : k ≡ 4 = rw z at is in refused_4 l book ok _ (enter_chain next_lane (state_of l book) i c) (eqb-true l.lanes 0 z) (rw four at e))
+      (λ n. by_test (leb l.lanes i)
+      (λ past. let eight : k ≡ 8 = rw (n, past) at is in
+      refused_8 l book ok i _ (enter_chain next_lane (state_of l book) i c) (λ z. let t = eq-eqb l.lanes 0 z in clash (rw t at n)) (leb-true l.lanes i past) (rw eight at e))
+      (λ below. let none : k ≡ 0 = rw (n, below) at is in absurd (omega arith)))
 
   -- `counts` and `fitting` are what the functions that count the lanes and test the room give
   module _ (shape : Shaped l) (h : i < l.lanes) (counts : LaneCounts) (counted : counts ≡ counts_of l.lane) where
@@ -47,8 +56,8 @@ module _ (l : Line) (book : List ℕ) (ok : sound l (length book) ≡ true) (i c
     gathered_in = rw counted (omega (arith, gathered_most l.lane, shape.lanes_length))
 
     module _ (fitting : Bool) (fit : fitting ≡ fits l.view l.capacity l.pointer (counts.total + c))
-        (came : Entered) (asked : came ≡ admitted (phase_at l i) (eqb counts.active counts.gathered) fitting (eqb (counts.gathered + 1) l.lanes)) where
-      abbrev came_of : LaneCounts → Bool → Entered
+        (came : Result Entered Refusal) (asked : came ≡ admitted (phase_at l i) (eqb counts.active counts.gathered) fitting (eqb (counts.gathered + 1) l.lanes)) where
+      abbrev came_of : LaneCounts → Bool → Result Entered Refusal
       came_of n f = admitted (phase_at l i) (eqb n.active n.gathered) f (eqb (n.gathered + 1) l.lanes)
 
       came_is : came ≡ enter_of l i c
@@ -57,7 +66,7 @@ module _ (l : Line) (book : List ℕ) (ok : sound l (length book) ≡ true) (i c
           ∙ ap (λ (n : LaneCounts). came_of n (fits l.view l.capacity l.pointer (n.total + c))) counted
 
       -- the pointer after the whole ordered call is in range
-      pub reach : came ≡ Entered.Complete → l.pointer.0 + (counts.total + c) ≤ most_pointer
+      pub reach : came ≡ Ok Entered.Complete → l.pointer.0 + (counts.total + c) ≤ most_pointer
       reach e = rw counted (enter_reach l book shape ok i h c (ap is_accepted (sym came_is ∙ e)))
 
       pub enters : (o : Outcome) → o ≡ settled l (entered l i c) (counts.total + c) came → Meets (call_event (state_of l book) (Event.Enter i c)) o book

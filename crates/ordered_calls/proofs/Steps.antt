@@ -1,4 +1,5 @@
 -- The step of an enter by a lane of a sound line, from the counts of its lanes, and the bounds that keep its sums in range.
+use Rattle.std.specs.Prelude.{Result, Ok, Err}
 use Prim.Native.Nat.{ℕ, ◌+◌, ◌≤◌, ◌<◌}
 use mathlib.Core.Path.{◌≡◌, refl, sym, ap, ◌∙◌}
 use mathlib.Core.Bool.{Bool, true, false, cond, not}
@@ -24,7 +25,9 @@ use Rattle.line.proofs.Facts.{OpenNumbers, good_of, when_open}
 use Rattle.lane_tests.specs.Rules.{counts_of}
 use Rattle.lane_tests.proofs.Counts.{calm_counts, gathered_set, total_none, total_set}
 use Rattle.waitlist.specs.NextLane.{next_lane}
+use Rattle.event.specs.Refusal.{number_of}
 use Rattle.event.specs.declared.Event.{Event}
+use Rattle.event.specs.declared.Refusal.{Refusal}
 use Rattle.steps.specs.Effects.{enter_step, entered}
 use Rattle.steps.specs.Meets.{state_of}
 use Rattle.steps.specs.State.{leaves, with_phase}
@@ -35,22 +38,22 @@ use Rattle.refuse.proofs.First.{at_lane}
 use Rattle.ordered_calls.specs.declared.Entered.{Entered}
 use Rattle.ordered_calls.specs.Settled.{IdlePast, is_accepted, admitted, completed, enter_of, settled, total_with, with_book}
 
-fitting_passed : (fitting last : Bool) → is_accepted (cond (not fitting) (Entered.Refused 16) (cond last Entered.Complete Entered.Gathered)) ≡ true → fitting ≡ true
+fitting_passed : (fitting last : Bool) → is_accepted (cond (not fitting) (Err Refusal.NoRoom) (cond last (Ok Entered.Complete) (Ok Entered.Gathered))) ≡ true → fitting ≡ true
 fitting_passed true last e = refl
 fitting_passed false last e = clash (sym e)
 
-refused_not : {X : Type 0} (k : ℕ) → is_accepted (Entered.Refused k) ≡ true → X
-refused_not k e = clash (sym e)
+refused_not : {X : Type 0} (r : Refusal) → is_accepted (Err r) ≡ true → X
+refused_not r e = clash (sym e)
 
 abbrev pub Tests : Phase → Bool → Bool → Type 0
 Tests x calm fitting = (calm ≡ true) × (is_idle x ≡ true) × (fitting ≡ true)
 
 pub tests_passed : (x : Phase) (calm fitting last : Bool) → is_accepted (admitted x calm fitting last) ≡ true → Tests x calm fitting
-tests_passed x false fitting last e = refused_not 11 e
+tests_passed x false fitting last e = refused_not Refusal.LaneNotIdle e
 tests_passed x true fitting last e =
     by_test (is_idle x)
-    (λ d. let e' : is_accepted (cond (not fitting) (Entered.Refused 16) (cond last Entered.Complete Entered.Gathered)) ≡ true = rw d at e in (refl, d, fitting_passed fitting last e'))
-    (λ d. refused_not 13 (rw d at e))
+    (λ d. let e' : is_accepted (cond (not fitting) (Err Refusal.NoRoom) (cond last (Ok Entered.Complete) (Ok Entered.Gathered))) ≡ true = rw d at e in (refl, d, fitting_passed fitting last e'))
+    (λ d. refused_not Refusal.WrongPhase (rw d at e))
 
 module _ (l : Line) (book : List ℕ) (shape : Shaped l) (ok : sound l (length book) ≡ true) (i : ℕ) (h : i < l.lanes) where
   open_line : OpenNumbers l (length book)
@@ -118,16 +121,16 @@ module _ (l : Line) (book : List ℕ) (shape : Shaped l) (ok : sound l (length b
     enter_step_lem = enter_chain next_lane (state_of l book) i c ∙ at_lane l book ok i _ h ∙ tests
 
     -- the same, case by case
-    pub enter_refused : (k : ℕ) → enter_of l i c ≡ Entered.Refused k → call_event (state_of l book) (Event.Enter i c) ≡ refuse k (state_of l book)
-    enter_refused k e = enter_step_lem ∙ ap (λ (x : Entered). with_book (settled l (entered l i c) (total_with l c) x) book) e
+    pub enter_refused : (r : Refusal) → enter_of l i c ≡ Err r → call_event (state_of l book) (Event.Enter i c) ≡ refuse (number_of r) (state_of l book)
+    enter_refused r e = enter_step_lem ∙ ap (λ (x : Result Entered Refusal). with_book (settled l (entered l i c) (total_with l c) x) book) e
 
-    pub enter_gathered : enter_of l i c ≡ Entered.Gathered
+    pub enter_gathered : enter_of l i c ≡ Ok Entered.Gathered
         → call_event (state_of l book) (Event.Enter i c) ≡ leaves Answer.Gathered (with_phase l i (Phase.Gathered c)) book
-    enter_gathered e = enter_step_lem ∙ ap (λ (x : Entered). with_book (settled l (entered l i c) (total_with l c) x) book) e
+    enter_gathered e = enter_step_lem ∙ ap (λ (x : Result Entered Refusal). with_book (settled l (entered l i c) (total_with l c) x) book) e
 
-    pub enter_complete : enter_of l i c ≡ Entered.Complete
+    pub enter_complete : enter_of l i c ≡ Ok Entered.Complete
         → call_event (state_of l book) (Event.Enter i c) ≡ with_book (completed l (entered l i c) (total_with l c)) book
-    enter_complete e = enter_step_lem ∙ ap (λ (x : Entered). with_book (settled l (entered l i c) (total_with l c) x) book) e
+    enter_complete e = enter_step_lem ∙ ap (λ (x : Result Entered Refusal). with_book (settled l (entered l i c) (total_with l c) x) book) e
 
     -- ---- a lane that gets in was idle, as no lane was active but for the gathered ones, and the pointer after the whole ordered call is in range
     module _ (e : is_accepted (enter_of l i c) ≡ true) where

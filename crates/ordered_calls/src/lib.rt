@@ -1,7 +1,7 @@
 // The call 0A enter: a lane enters an ordered call, and the last one to enter starts all of them. A few numbers decide it. The line is sound: the entries test that.
 #![tactic(auto)]
 
-ghost use Rattle.std.specs.Prelude.{◌+◌, ◌≤◌, true, ◌≡◌, length};
+ghost use Rattle.std.specs.Prelude.{◌+◌, ◌≤◌, Ok, true, ◌≡◌, length};
 ghost use Rattle.limits.specs.Limits.{most_pointer};
 ghost use Rattle.line.specs.Sound.{sound};
 ghost use Rattle.event.specs.declared.Event.{Event};
@@ -10,7 +10,9 @@ ghost use Rattle.steps.specs.Meets.{Meets, state_of};
 ghost use Rattle.steps.specs.Step.{call_event};
 ghost use Rattle.ordered_calls.specs.Settled.{IdlePast, admitted, completed, settled};
 
+use changes::missing_lane;
 use changes::phases::to_write;
+use event::Refusal;
 use lane_tests::tallies::counts_of;
 use limits::MOST_LANES;
 use line::{Lane, Line, Phase};
@@ -18,31 +20,31 @@ use refuse::refuse;
 use steps::{Answer, Outcome};
 use view::Place;
 
-// What an enter of a lane comes to.
-#[derive(Clone, Copy)]
+// What an enter that is not refused comes to.
+#[derive(Clone, Copy, Debug, PartialEq, Eq)]
 pub enum Entered {
-    Refused(u8),
     Gathered,
     Complete,
 }
 
 // 11 unless all lanes are idle or gathered, 13 unless this one is idle, 16 unless its records fit after those gathered; complete with the last lane.
-pub fn admit(phase: Phase, calm: bool, fitting: bool, last: bool) -> Entered
+#[inline(always)]
+pub fn admit(phase: Phase, calm: bool, fitting: bool, last: bool) -> Result<Entered, Refusal>
     ensures { result ≡ admitted phase calm fitting last }
 {
     if !calm {
-        return Entered::Refused(11);
+        return Err(Refusal::LaneNotIdle);
     }
     if !phase_tests::is_idle(phase) {
-        return Entered::Refused(13);
+        return Err(Refusal::WrongPhase);
     }
     if !fitting {
-        return Entered::Refused(16);
+        return Err(Refusal::NoRoom);
     }
     if last {
-        return Entered::Complete;
+        return Ok(Entered::Complete);
     }
-    Entered::Gathered
+    Ok(Entered::Gathered)
 }
 
 // A gathered lane starts at a place; the others stay as they are.
@@ -60,20 +62,14 @@ pub fn start_all(lanes: [Lane; MOST_LANES], n: u8, pointer: u32) -> [Lane; MOST_
     requires { (pointer ≤ most_pointer) × IdlePast n lanes }
     ensures { result ≡ started pointer lanes }
 {
-    let end = n as usize;
-    let mut out = lanes;
+    let mut started = lanes;
     let mut at = pointer;
-    let mut r: usize = 0;
-    while r < end {
-        let own = out[r];
-        let phase = own.phase;
-        out[r] = Lane {
-            phase: start_at(phase, at),
-        };
-        at += phase_tests::count_in(phase) as u32;
-        r += 1;
+    for r in 0..usize::from(n) {
+        let phase = started[r].phase;
+        started[r].phase = start_at(phase, at);
+        at += u32::from(phase_tests::count_in(phase));
     }
-    out
+    started
 }
 
 // All N lanes are in, with `total` records: each starts after those below it.
@@ -82,31 +78,36 @@ fn complete(line: Line, lanes: [Lane; MOST_LANES], total: u32) -> Outcome
     ensures { result ≡ completed line lanes total }
 {
     let before = line.pointer;
-    let started = start_all(lanes, line.lanes, before.0);
-    let pointer = Place(before.0 + total);
-    let mut next = line;
-    next.lane = started;
-    next.pointer = pointer;
     Outcome {
-        line: next,
+        line: Line {
+            pointer: Place(before.0 + total),
+            lane: start_all(lanes, line.lanes, before.0),
+            ..line
+        },
         answer: Answer::Ordered { before, total },
     }
 }
 
 // What an enter leaves, with the lanes as they are once this one is in: the line as it is, these lanes, or all of them started.
-fn settle(line: Line, lanes: [Lane; MOST_LANES], total: u32, came: Entered) -> Outcome
-    requires { (came ≡ Entered.Complete → line.pointer.0 + total ≤ most_pointer) × IdlePast line.lanes lanes }
+fn settle(
+    line: Line,
+    lanes: [Lane; MOST_LANES],
+    total: u32,
+    came: Result<Entered, Refusal>,
+) -> Outcome
+    requires { (came ≡ Ok Entered.Complete → line.pointer.0 + total ≤ most_pointer) × IdlePast line.lanes lanes }
     ensures { result ≡ settled line lanes total came }
 {
-    let mut next = line;
-    next.lane = lanes;
     match came {
-        Entered::Refused(number) => refuse(line, number),
-        Entered::Gathered => Outcome {
-            line: next,
+        Err(reason) => refuse(line, reason),
+        Ok(Entered::Gathered) => Outcome {
+            line: Line {
+                lane: lanes,
+                ..line
+            },
             answer: Answer::Gathered,
         },
-        Entered::Complete => complete(line, lanes, total),
+        Ok(Entered::Complete) => complete(line, lanes, total),
     }
 }
 
@@ -115,25 +116,17 @@ pub fn enter(line: Line, book: &[u8], lane: u8, count: u16) -> Outcome
     requires { sound line (length book.now) ≡ true }
     ensures { Meets (call_event (state_of line book.now) (Event.Enter lane count)) result book.now }
 {
-    if line.lanes == 0 {
-        return refuse(line, 4);
+    if let Some(reason) = missing_lane(line.lanes, lane) {
+        return refuse(line, reason);
     }
-    if line.lanes <= lane {
-        return refuse(line, 8);
-    }
-    let i = lane as usize;
-    let mut lanes = line.lane;
-    let own = lanes[i];
-    let phase = own.phase;
-    let counts = counts_of(lanes);
-    let total = counts.total + count as u32;
-    let view = line.view;
-    let fitting = view.fits(line.capacity, line.pointer, total);
+    let i = usize::from(lane);
+    let counts = counts_of(line.lane);
+    let total = counts.total + u32::from(count);
     let calm = counts.active == counts.gathered;
-    let last = counts.gathered + 1 == line.lanes as u32;
-    let came = admit(phase, calm, fitting, last);
-    lanes[i] = Lane {
-        phase: Phase::Gathered(count),
-    };
+    let fitting = line.view.fits(line.capacity, line.pointer, total);
+    let last = counts.gathered + 1 == u32::from(line.lanes);
+    let came = admit(line.lane[i].phase, calm, fitting, last);
+    let mut lanes = line.lane;
+    lanes[i].phase = Phase::Gathered(count);
     settle(line, lanes, total, came)
 }

@@ -1,5 +1,4 @@
 -- The laws of records.
 pub mod Digits
-pub mod Answers
 pub mod Steps
 pub mod Regular

@@ -1,5 +1,5 @@
 -- The calls 05, 06, 07 and 08 as changes, past the tests of 4 and 8. Tied to `call_event` by record_calls/Steps: write_step_lem, read_step_lem, put_step, look_step.
-use Rattle.std.specs.Prelude.{ℕ, ◌+◌, max, Bool, true, cond, not, List, leb, drop, take}
+use Rattle.std.specs.Prelude.{None, ℕ, ◌+◌, max, Bool, true, cond, not, List, leb, drop, take}
 use Rattle.std.proofs.lemmas.List.Edits.{sets}
 use Rattle.lists.specs.Lists.{implies}
 use Rattle.view.specs.View.{position_of}
@@ -8,7 +8,6 @@ use Rattle.view.specs.declared.Position.{Position}
 use Rattle.view.specs.declared.View.{View}
 use Rattle.line.specs.declared.Phase.{Phase}
 use Rattle.line.specs.Line.{holds_whole, is_reading, is_writing, place_in}
-use Rattle.waitlist.specs.declared.Wakes.{Wakes}
 use Rattle.event.specs.BigEndian.{big_endian, number_of}
 use Rattle.steps.specs.declared.Answer.{Answer}
 use Rattle.steps.specs.Effects.{one_less}
@@ -23,7 +22,7 @@ next_position v s = position_of v (place_in s.phase)
 -- ---- 05 and 07: a record put at position p, by a lane that has phase y after it
 abbrev pub record_put : Seen → Position → Phase → Change
 record_put s p y =
-    record { answer = Answer.Wrote p; phase = y; flag = s.flag; pointer = s.pointer; size = max s.size (p.0 + 8); wakes = Wakes.None }
+    record { answer = Answer.Wrote p; phase = y; flag = s.flag; pointer = s.pointer; size = max s.size (p.0 + 8); wakes = None }
 
 -- 13 to a lane that is no busy writer
 abbrev pub written_by : Seen → Position → Phase → Change
@@ -82,7 +81,7 @@ record_in p size book =
 
 abbrev pub record_found : Seen → Position → List ℕ → Phase → Change
 record_found s p book y =
-    record { answer = record_in p s.size book; phase = y; flag = s.flag; pointer = s.pointer; size = s.size; wakes = Wakes.None }
+    record { answer = record_in p s.size book; phase = y; flag = s.flag; pointer = s.pointer; size = s.size; wakes = None }
 
 -- 13 to a lane that is no busy reader
 abbrev pub read_by : Seen → Position → List ℕ → Phase → Change

@@ -8,33 +8,13 @@ ghost use Rattle.line.specs.Line.{place_in};
 ghost use Rattle.record_calls.specs.Records.{book_after, look_at, put_at, read_by, record_found, record_in, record_put, storable, writable, written_by};
 
 use changes::phases::{to_read, to_write};
-use changes::{Change, Seen, refuse};
+use changes::{Change, Seen, keep, refuse};
+use event::Refusal;
 use line::Phase;
 use steps::Answer;
 use view::{Place, Position};
-use waitlist::Wakes;
 
 mod bytes;
-
-// The larger of two sizes.
-fn larger(a: u32, b: u32) -> u32
-    ensures { result ≡ max a b }
-{
-    if a < b {
-        return b;
-    }
-    a
-}
-
-// One record less; of none, none.
-fn one_less(left: u16) -> u16
-    ensures { result ≡ left - 1 }
-{
-    if left == 0 {
-        return 0;
-    }
-    left - 1
-}
 
 // A record put at a position: the size is the end of the furthest record.
 fn put_at(seen: Seen, position: Position, phase: Phase) -> Change
@@ -42,14 +22,10 @@ fn put_at(seen: Seen, position: Position, phase: Phase) -> Change
     ensures { result ≡ record_put seen position phase }
 {
     let end = position.0 as u32 + 8;
-    let pointer = seen.pointer;
     Change {
-        answer: Answer::Wrote { position },
         phase,
-        flag: seen.flag,
-        pointer,
-        size: larger(seen.size, end),
-        wakes: Wakes::None,
+        size: seen.size.max(end),
+        ..keep(seen, Answer::Wrote { position })
     }
 }
 
@@ -58,7 +34,7 @@ fn ends_within(position: Position, bytes: u32) -> bool
     requires { position.0 < most_position }
     ensures { result ≡ leb (position.0 + 8) bytes }
 {
-    position.0 + 8 <= bytes as u64
+    position.0 + 8 <= u64::from(bytes)
 }
 
 // The record at a position, or none where it ends past the size.
@@ -78,15 +54,9 @@ fn find_at(seen: Seen, position: Position, book: &[u8], phase: Phase) -> Change
     requires { (position.0 < most_position) × (seen.size ≤ length book.now) }
     ensures { result ≡ record_found seen position book.now phase }
 {
-    let answer = record_at(position, seen.size, book);
-    let pointer = seen.pointer;
     Change {
-        answer,
         phase,
-        flag: seen.flag,
-        pointer,
-        size: seen.size,
-        wakes: Wakes::None,
+        ..keep(seen, record_at(position, seen.size, book))
     }
 }
 
@@ -95,14 +65,13 @@ pub fn write(seen: Seen, position: Position) -> Change
     requires { ((place_in seen.phase).0 ≤ most_pointer) × (writable seen position ≡ true) }
     ensures { result ≡ written_by seen position seen.phase }
 {
-    let phase = seen.phase;
-    match phase {
+    match seen.phase {
         Phase::BusyWriting { left, next } => put_at(
             seen,
             position,
-            to_write(one_less(left), Place(next.0 + 1)),
+            to_write(left.saturating_sub(1), Place(next.0 + 1)),
         ),
-        _ => refuse(seen, 13),
+        _ => refuse(seen, Refusal::WrongPhase),
     }
 }
 
@@ -111,15 +80,14 @@ pub fn read(seen: Seen, position: Position, book: &[u8]) -> Change
     requires { ((place_in seen.phase).0 ≤ most_pointer) × (position.0 < most_position) × (seen.size ≤ length book.now) }
     ensures { result ≡ read_by seen position book.now seen.phase }
 {
-    let phase = seen.phase;
-    match phase {
+    match seen.phase {
         Phase::BusyReading { left, next } => find_at(
             seen,
             position,
             book,
-            to_read(one_less(left), Place(next.0 + 1)),
+            to_read(left.saturating_sub(1), Place(next.0 + 1)),
         ),
-        _ => refuse(seen, 13),
+        _ => refuse(seen, Refusal::WrongPhase),
     }
 }
 
@@ -128,14 +96,13 @@ pub fn put(seen: Seen, position: Position) -> Change
     requires { position.0 < most_position }
     ensures { result ≡ put_at seen position }
 {
-    let phase = seen.phase;
-    if !phase_tests::holds_whole(phase) {
-        return refuse(seen, 13);
+    if !phase_tests::holds_whole(seen.phase) {
+        return refuse(seen, Refusal::WrongPhase);
     }
     if !ends_within(position, seen.capacity) {
-        return refuse(seen, 16);
+        return refuse(seen, Refusal::NoRoom);
     }
-    put_at(seen, position, phase)
+    put_at(seen, position, seen.phase)
 }
 
 // 08: the holder of the whole book looks at any place; `position` is where that is.
@@ -143,11 +110,10 @@ pub fn look(seen: Seen, position: Position, book: &[u8]) -> Change
     requires { (position.0 < most_position) × (seen.size ≤ length book.now) }
     ensures { result ≡ look_at seen position book.now }
 {
-    let phase = seen.phase;
-    if !phase_tests::holds_whole(phase) {
-        return refuse(seen, 13);
+    if !phase_tests::holds_whole(seen.phase) {
+        return refuse(seen, Refusal::WrongPhase);
     }
-    find_at(seen, position, book, phase)
+    find_at(seen, position, book, seen.phase)
 }
 
 // Stores the record that was put, at the position of the answer; a refusal changes no byte.

@@ -19,6 +19,10 @@ use Rattle.refuse.specs.Refused.{refused_outcome}
 pub meets_as : {s t : Result} {o : Outcome} {bytes : List ℕ} → s ≡ t → Meets t o bytes → Meets s o bytes
 meets_as {s} {t} {o} {bytes} e m = subst (λ (r : Result). Meets r o bytes) (sym e) m
 
+-- what `refuse` gives for a reason with this number
+pub refused_with : (l : Line) (k : ℕ) {o : Outcome} → (j : ℕ) × (j ≡ k) × (o ≡ refused_outcome l j) → o ≡ refused_outcome l k
+refused_with l k e = e.2 ∙ ap (λ (j : ℕ). refused_outcome l j) e.1
+
 module _ (l : Line) (book : List ℕ) where
   pub meets_refused : (k : ℕ) {step : Result} {o : Outcome} → step ≡ refuse k (state_of l book) → o ≡ refused_outcome l k → Meets step o book
   meets_refused k e f =

@@ -12,7 +12,7 @@ use Rattle.line.specs.declared.Line.{Line}
 use Rattle.line.specs.Line.{is_idle, on}
 use Rattle.line.specs.Sound.{sound}
 use Rattle.waitlist.specs.NextLane.{next_lane}
-use Rattle.event.specs.declared.Blocks.{Blocks}
+use Rattle.view.specs.declared.Block.{Block}
 use Rattle.event.specs.declared.Event.{Event}
 use Rattle.steps.specs.Effects.{open_step, seek_base, seek_step, seek_target, view_of, view_step}
 use Rattle.steps.specs.Meets.{state_of}
@@ -76,7 +76,7 @@ module _ (l : Line) (book : List ℕ) (ok : sound l (length book) ≡ true) wher
       (not (eqb l.lanes 0)) (not (lanes_test lanes)) (not (capacity_test capacity (length book))) 4 5 6
 
   -- ---- 0B
-  pub view_step_lem : (displacement extent used : ℕ) (blocks : Blocks)
+  pub view_step_lem : (displacement extent used : ℕ) (blocks : List Block)
       → call_event (state_of l book) (Event.View displacement extent used blocks)
       ≡ or_refused (view_refusal l.lanes l.capacity (view_of displacement extent used blocks) (all_pass (on is_idle) l.lane)) (state_of l book)
       (view_step (state_of l book) (view_of displacement extent used blocks))

@@ -1,2 +1,3 @@
 -- The decisions of the calls that set the line up.
 pub mod Setup
+pub mod Whence

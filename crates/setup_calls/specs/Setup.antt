@@ -1,12 +1,13 @@
 -- What the calls that set the line up decide from numbers: the refusal, 0 for none, and the place of a seek. Tied to `call_event` by setup_calls/Steps: open_step_lem, view_step_lem, seek_step_lem.
-use Rattle.std.specs.Prelude.{ℕ, zero, suc, Bool, cond, not, ◌&&◌, eqb, leb, ltb, ℤ, pos, ◌+ℤ◌}
+use Rattle.std.specs.Prelude.{ℕ, zero, suc, Bool, cond, not, ◌&&◌, eqb, leb, ltb, ℤ, pos, ◌+ℤ◌, Option, Some, None, Result, Ok, Err, ◌≡◌}
 use Rattle.limits.specs.Limits.{least_capacity, most_capacity, most_lanes}
 use Rattle.view.specs.View.{end_of_book, place, view_ok}
 use Rattle.view.specs.declared.Place.{Place}
 use Rattle.view.specs.declared.View.{View}
+use Rattle.event.specs.Refusal.{number_of}
+use Rattle.event.specs.declared.Refusal.{Refusal}
 use Rattle.steps.specs.Effects.{place_at}
 use Rattle.steps.specs.Refusals.{is_outside}
-use Rattle.setup_calls.specs.declared.target.Sought.{Sought}
 
 -- ---- the place of a seek
 abbrev pub base_of : ℕ → Place → Place → Place
@@ -17,12 +18,9 @@ base_of (suc (suc k)) pointer end = end
 abbrev pub target_of : ℕ → Place → View → ℕ → ℤ → ℤ
 target_of size pointer v whence offset = pos (base_of whence pointer (end_of_book v size)).0 +ℤ offset
 
-abbrev pub sought_at : ℤ → Sought
-sought_at target = cond (is_outside target) Sought.Outside (Sought.At (place_at target))
-
-abbrev pub place_of : Sought → Place
-place_of (Sought.At k) = k
-place_of Sought.Outside = place 0
+-- none where the sum is outside the pointer's range
+abbrev pub sought_at : ℤ → Option Place
+sought_at target = cond (is_outside target) None (Some (place_at target))
 
 -- ---- the refusals: 01
 abbrev pub lanes_test : ℕ → Bool
@@ -43,3 +41,8 @@ view_refusal own capacity v idle = cond (eqb own 0) 4 (cond (not (view_ok capaci
 abbrev pub seek_refusal : ℕ → ℕ → Place → View → ℕ → ℤ → Bool → ℕ
 seek_refusal own size pointer v whence offset idle =
     cond (eqb own 0) 4 (cond (ltb 2 whence) 9 (cond (not idle) 11 (cond (is_outside (target_of size pointer v whence offset)) 15 0)))
+
+-- what a seek comes to with this number: the place sought where it is 0, and else the reason with it
+abbrev pub Seeks : ℕ → ℤ → Result Place Refusal → Type 0
+Seeks number target (Ok k) = (number ≡ 0) × (Some k ≡ sought_at target)
+Seeks number target (Err r) = number ≡ number_of r

@@ -3,58 +3,81 @@
 
 ghost use Rattle.std.specs.Prelude.{true, ◌≡◌, length};
 ghost use Rattle.line.specs.Sound.{sound};
+ghost use Rattle.event.specs.Refusal.{number_or_none};
 ghost use Rattle.event.specs.declared.Event.{Event};
 ghost use Rattle.steps.specs.Effects.{view_of};
 ghost use Rattle.steps.specs.Meets.{Meets, state_of};
 ghost use Rattle.steps.specs.Step.{call_event};
-ghost use Rattle.setup_calls.specs.Setup.{open_refusal, seek_refusal, view_refusal};
+ghost use Rattle.setup_calls.specs.Setup.{Seeks, open_refusal, seek_refusal, target_of, view_refusal};
 
-use event::Blocks;
-use lane_tests::rules;
-use lane_tests::rules::Rule;
+use event::Refusal;
+use lane_tests::tallies;
+use limits::MOST_BLOCKS;
 use line::Line;
 use refuse::refuse;
 use steps::{Answer, Outcome};
-use view::{Place, View};
+use view::{Block, Place, View};
 
 mod fresh;
 mod target;
 
-use target::Sought;
+use target::Whence;
 
-// What refuses an opening of a line with `own` lanes: 5 unless there are none, 6 for the lanes asked for, 7 for the capacity; 0 for nothing.
-pub fn open_refusal(own: u8, lanes: u8, capacity: u32, buffer: usize) -> u8
-    ensures { result ≡ open_refusal own lanes capacity buffer }
+// What refuses an opening of a line with `own` lanes: that it has any, the lanes asked for, or the capacity.
+pub fn open_refusal(own: u8, lanes: u8, capacity: u32, buffer: usize) -> Option<Refusal>
+    ensures { number_or_none result ≡ open_refusal own lanes capacity buffer }
 {
     if own != 0 {
-        return 5;
+        return Some(Refusal::AlreadyOpen);
     }
     if !fresh::lanes_ok(lanes) {
-        return 6;
+        return Some(Refusal::LanesOutside);
     }
     if !fresh::capacity_ok(capacity, buffer) {
-        return 7;
+        return Some(Refusal::CapacityOutside);
     }
-    0
+    None
 }
 
-// What refuses a view: 4 on a line that is not open, 10 for a view that breaks a rule, 11 unless all lanes are idle; 0 for nothing.
-pub fn view_refusal(own: u8, capacity: u32, view: View, idle: bool) -> u8
-    ensures { result ≡ view_refusal own capacity view idle }
+// What refuses a view: a line that is not open, a view that breaks a rule, or a lane that is not idle.
+pub fn view_refusal(own: u8, capacity: u32, view: View, idle: bool) -> Option<Refusal>
+    ensures { number_or_none result ≡ view_refusal own capacity view idle }
 {
     if own == 0 {
-        return 4;
+        return Some(Refusal::NotOpen);
     }
     if !view.is_ok(capacity) {
-        return 10;
+        return Some(Refusal::ViewBreaksRule);
     }
     if !idle {
-        return 11;
+        return Some(Refusal::LaneNotIdle);
     }
-    0
+    None
 }
 
-// What refuses a seek: 4 on a line that is not open, 9 for the whence, 11 unless all lanes are idle, 15 for a place out of range; 0 for nothing.
+// Where a seek goes, or what refuses it: a line that is not open, the whence, a lane that is not idle, or a place out of range.
+fn seek_to(
+    own: u8,
+    size: u32,
+    pointer: Place,
+    view: View,
+    whence: u8,
+    offset: i32,
+    idle: bool,
+) -> Result<Place, Refusal>
+    ensures { Seeks (seek_refusal own size pointer view whence offset idle) (target_of size pointer view whence offset) result }
+{
+    if own == 0 {
+        return Err(Refusal::NotOpen);
+    }
+    let whence = Whence::try_from(whence)?;
+    if !idle {
+        return Err(Refusal::LaneNotIdle);
+    }
+    target::seek_to(size, pointer, view, whence, offset).ok_or(Refusal::PointerOutside)
+}
+
+// What refuses a seek.
 pub fn seek_refusal(
     own: u8,
     size: u32,
@@ -63,23 +86,10 @@ pub fn seek_refusal(
     whence: u8,
     offset: i32,
     idle: bool,
-) -> u8
-    ensures { result ≡ seek_refusal own size pointer view whence offset idle }
+) -> Option<Refusal>
+    ensures { number_or_none result ≡ seek_refusal own size pointer view whence offset idle }
 {
-    if own == 0 {
-        return 4;
-    }
-    if 2 < whence {
-        return 9;
-    }
-    if !idle {
-        return 11;
-    }
-    let sought = target::seek_to(size, pointer, view, whence, offset);
-    match sought {
-        Sought::At(_) => 0,
-        Sought::Outside => 15,
-    }
+    seek_to(own, size, pointer, view, whence, offset, idle).err()
 }
 
 // 01: opens the line with so many lanes, over the first bytes of the book.
@@ -87,36 +97,25 @@ pub fn open(line: Line, book: &mut [u8], lanes: u8, capacity: u32) -> Outcome
     requires { sound line (length book.old) ≡ true }
     ensures { Meets (call_event (state_of line book.old) (Event.Open lanes capacity)) result book.new }
 {
-    let number = open_refusal(line.lanes, lanes, capacity, book.len());
-    if number != 0 {
-        return refuse(line, number);
+    if let Some(reason) = open_refusal(line.lanes, lanes, capacity, book.len()) {
+        return refuse(line, reason);
     }
     fresh::zero_first(book, capacity as usize);
-    let next = fresh::opened(lanes, capacity);
     Outcome {
-        line: next,
+        line: fresh::opened(lanes, capacity),
         answer: Answer::Open { lanes, capacity },
     }
 }
 
 // The view of a view event's fields.
-pub fn view_of(displacement: u32, extent: u16, used: u8, blocks: Blocks) -> View
+pub fn view_of(displacement: u32, extent: u16, used: u8, blocks: [Block; MOST_BLOCKS]) -> View
     ensures { result ≡ view_of displacement extent used blocks }
 {
-    let b0 = blocks.b0;
-    let b1 = blocks.b1;
-    let b2 = blocks.b2;
-    let b3 = blocks.b3;
-    let b4 = blocks.b4;
-    let b5 = blocks.b5;
-    let b6 = blocks.b6;
-    let b7 = blocks.b7;
-    let block = [b0, b1, b2, b3, b4, b5, b6, b7];
     View {
         displacement,
         extent,
         used,
-        block,
+        block: blocks,
     }
 }
 
@@ -127,23 +126,22 @@ pub fn set_view(
     displacement: u32,
     extent: u16,
     used: u8,
-    blocks: Blocks,
+    blocks: [Block; MOST_BLOCKS],
 ) -> Outcome
     requires { sound line (length book.now) ≡ true }
     ensures { Meets (call_event (state_of line book.now) (Event.View displacement extent used blocks)) result book.now }
 {
     let view = view_of(displacement, extent, used, blocks);
-    let idle = rules::all_meet(Rule::Idle, line, 0);
-    let number = view_refusal(line.lanes, line.capacity, view, idle);
-    if number != 0 {
-        return refuse(line, number);
+    let idle = tallies::all_idle(line.lane);
+    if let Some(reason) = view_refusal(line.lanes, line.capacity, view, idle) {
+        return refuse(line, reason);
     }
-    let start = Place(0);
-    let mut next = line;
-    next.view = view;
-    next.pointer = start;
     Outcome {
-        line: next,
+        line: Line {
+            view,
+            pointer: Place(0),
+            ..line
+        },
         answer: Answer::View,
     }
 }
@@ -153,18 +151,20 @@ pub fn seek(line: Line, book: &[u8], whence: u8, offset: i32) -> Outcome
     requires { sound line (length book.now) ≡ true }
     ensures { Meets (call_event (state_of line book.now) (Event.Seek whence offset)) result book.now }
 {
-    let view = line.view;
-    let pointer = line.pointer;
-    let idle = rules::all_meet(Rule::Idle, line, 0);
-    let number = seek_refusal(line.lanes, line.size, pointer, view, whence, offset, idle);
-    if number != 0 {
-        return refuse(line, number);
-    }
-    let place = target::place_sought(line.size, pointer, view, whence, offset);
-    let mut next = line;
-    next.pointer = place;
-    Outcome {
-        line: next,
-        answer: Answer::Seek { pointer: place },
+    let idle = tallies::all_idle(line.lane);
+    match seek_to(
+        line.lanes,
+        line.size,
+        line.pointer,
+        line.view,
+        whence,
+        offset,
+        idle,
+    ) {
+        Ok(pointer) => Outcome {
+            line: Line { pointer, ..line },
+            answer: Answer::Seek { pointer },
+        },
+        Err(reason) => refuse(line, reason),
     }
 }

@@ -1,64 +1,63 @@
 // The place that a seek asks for: a signed offset added to a base, exact over the integers.
-ghost use Rattle.std.specs.Prelude.{◌≡◌, pos, ◌+ℤ◌};
+ghost use Rattle.std.specs.Prelude.{◌≡◌, ◌<◌, pos, ◌+ℤ◌};
+ghost use Rattle.std.specs.Result.{MatchResult};
+ghost use Rattle.event.specs.declared.Refusal.{Refusal};
 ghost use Rattle.view.specs.View.{end_of_book};
-ghost use Rattle.setup_calls.specs.Setup.{base_of, place_of, sought_at, target_of};
+ghost use Rattle.setup_calls.specs.Setup.{base_of, sought_at, target_of};
+ghost use Rattle.setup_calls.specs.Whence.{whence_number};
 
+use event::Refusal;
 use limits::MOST_POINTER;
 use view::{Place, View};
 
-// The last place that the pointer takes, as a signed number.
-const LAST_PLACE: i64 = MOST_POINTER as i64;
-
-// The place, or the sum is below 0 or above the last place that the pointer takes.
-#[derive(Clone, Copy)]
-pub enum Sought {
-    At(Place),
-    Outside,
+// What a seek's offset is added to.
+#[derive(Clone, Copy, Debug, PartialEq, Eq)]
+pub enum Whence {
+    PlaceZero,
+    Pointer,
+    EndOfBook,
 }
 
-// "Whence 0: the offset; 1: pointer + offset", 2: the end of the book in the view, plus offset (Wish 4): what the offset is added to.
-pub fn base(size: u32, pointer: Place, view: View, whence: u8) -> Place
-    ensures { result ≡ base_of whence pointer (end_of_book view size) }
+impl TryFrom<u8> for Whence {
+    type Error = Refusal;
+
+    ghost try_from_gives = { λ number r. MatchResult r (λ whence. number ≡ whence_number whence) (λ reason. (2 < number) × (reason ≡ Refusal.AboveTwo)) };
+
+    fn try_from(number: u8) -> Result<Whence, Refusal> {
+        match number {
+            0 => Ok(Whence::PlaceZero),
+            1 => Ok(Whence::Pointer),
+            2 => Ok(Whence::EndOfBook),
+            _ => Err(Refusal::AboveTwo),
+        }
+    }
+}
+
+// The end of the book is that in the view.
+fn base(size: u32, pointer: Place, view: View, whence: Whence) -> Place
+    ensures { result ≡ base_of (whence_number whence) pointer (end_of_book view size) }
 {
-    if whence == 0 {
-        return Place(0);
+    match whence {
+        Whence::PlaceZero => Place(0),
+        Whence::Pointer => pointer,
+        Whence::EndOfBook => view.end_of_book(size),
     }
-    if whence == 1 {
-        return pointer;
-    }
-    view.end_of_book(size)
 }
 
 // A place moved by a signed offset, where it stays in the pointer's range.
-pub fn moved_by(base: u32, offset: i32) -> Sought
-    ensures { result ≡ sought_at (pos base +ℤ offset) }
+fn moved_by(base: Place, offset: i32) -> Option<Place>
+    ensures { result ≡ sought_at (pos base.0 +ℤ offset) }
 {
-    let sum = (base as i64) + (offset as i64);
-    if sum < 0 {
-        return Sought::Outside;
+    let sum = i64::from(base.0) + i64::from(offset);
+    if sum < 0 || i64::from(MOST_POINTER) < sum {
+        return None;
     }
-    if LAST_PLACE < sum {
-        return Sought::Outside;
-    }
-    let place = Place(sum as u32);
-    Sought::At(place)
+    Some(Place(sum as u32))
 }
 
 // Where a seek goes from the numbers of a line.
-pub fn seek_to(size: u32, pointer: Place, view: View, whence: u8, offset: i32) -> Sought
-    ensures { result ≡ sought_at (target_of size pointer view whence offset) }
+pub fn seek_to(size: u32, pointer: Place, view: View, whence: Whence, offset: i32) -> Option<Place>
+    ensures { result ≡ sought_at (target_of size pointer view (whence_number whence) offset) }
 {
-    let base = base(size, pointer, view, whence);
-    moved_by(base.0, offset)
-}
-
-// The place where a seek goes that is not refused.
-pub fn place_sought(size: u32, pointer: Place, view: View, whence: u8, offset: i32) -> Place
-    ensures { result ≡ place_of (sought_at (target_of size pointer view whence offset)) }
-{
-    let sought = seek_to(size, pointer, view, whence, offset);
-    match sought {
-        Sought::At(place) => place,
-        Sought::Outside => Place(0),
-    }
+    moved_by(base(size, pointer, view, whence), offset)
 }

@@ -1,5 +1,5 @@
 -- The calls 02, 03, 04 and 09 as changes, past the tests of 4 and 8. Tied to `call_event` by turn_calls/Steps: want_step_lem, receive_step_lem, take_step_lem, free_step.
-use Rattle.std.specs.Prelude.{ℕ, ◌+◌, Bool, cond, not, List, eqb, ltb, set}
+use Rattle.std.specs.Prelude.{Option, None, ℕ, ◌+◌, Bool, cond, not, List, eqb, ltb, set}
 use Rattle.lists.specs.Lists.{all_pass}
 use Rattle.view.specs.View.{fits, place}
 use Rattle.view.specs.declared.Place.{Place}
@@ -9,7 +9,6 @@ use Rattle.line.specs.declared.Phase.{Phase}
 use Rattle.limits.specs.Limits.{most_pointer}
 use Rattle.line.specs.Line.{holds_whole, is_holding, is_idle, is_waiting, is_woken, place_in, purpose_in}
 use Rattle.waitlist.specs.NextLane.{next_lane}
-use Rattle.waitlist.specs.declared.Wakes.{Wakes}
 use Rattle.steps.specs.declared.Answer.{Answer}
 use Rattle.steps.specs.Effects.{purpose_of, reading, writing}
 use Rattle.changes.specs.Change.{refused_change}
@@ -18,7 +17,7 @@ use Rattle.changes.specs.declared.Seen.{Seen}
 
 -- the lane's phase and flag alone change
 abbrev pub moved_to : Seen → Answer → Phase → ℕ → Change
-moved_to s a y f = record { answer = a; phase = y; flag = f; pointer = s.pointer; size = s.size; wakes = Wakes.None }
+moved_to s a y f = record { answer = a; phase = y; flag = f; pointer = s.pointer; size = s.size; wakes = None }
 
 -- ---- 02
 -- the flag goes up; alone the lane holds with the pointer, and else it waits
@@ -47,10 +46,10 @@ abbrev pub receive_change : Seen → Change
 receive_change s = received_by s s.phase
 
 -- ---- a release, of 04 and 09: the flag drops, and the next lane is woken
-abbrev pub next_for : Seen → List ℕ → ℕ → Wakes
+abbrev pub next_for : Seen → List ℕ → ℕ → Option ℕ
 next_for s flags i = next_lane s.lanes (set flags i 0) i
 
-abbrev pub released_to : Seen → Answer → Phase → Place → Wakes → Change
+abbrev pub released_to : Seen → Answer → Phase → Place → Option ℕ → Change
 released_to s a y p w = record { answer = a; phase = y; flag = 0; pointer = p; size = s.size; wakes = w }
 
 -- ---- 04

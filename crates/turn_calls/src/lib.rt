@@ -7,15 +7,12 @@ ghost use Rattle.line.specs.Line.{place_in};
 ghost use Rattle.turn_calls.specs.Turns.{free_change, moved_to, receive_change, released_to, taken_by, taken_change, taken_from, taken_to_read, taken_to_write, want_change, wanted};
 
 use changes::phases::{purpose_of, to_read, to_write};
-use changes::{Change, Seen, refuse};
+use changes::{Change, Seen, keep, refuse};
+use event::Refusal;
 use limits::{MOST_LANES, MOST_POINTER};
 use line::{Phase, Purpose};
 use steps::Answer;
 use view::Place;
-use waitlist::Wakes;
-
-// The last place that the pointer takes, as a sum of 64 bits.
-const LAST_PLACE: u64 = MOST_POINTER as u64;
 
 // A lane raises its flag: where all others are 0 it holds, with the pointer, and else it waits.
 fn raise(seen: Seen, alone: bool, purpose: Purpose) -> Change
@@ -24,21 +21,15 @@ fn raise(seen: Seen, alone: bool, purpose: Purpose) -> Change
     let pointer = seen.pointer;
     if alone {
         return Change {
-            answer: Answer::Holds { pointer },
             phase: Phase::Holding(purpose, pointer),
             flag: 1,
-            pointer,
-            size: seen.size,
-            wakes: Wakes::None,
+            ..keep(seen, Answer::Holds { pointer })
         };
     }
     Change {
-        answer: Answer::Waits,
         phase: Phase::Waiting(purpose),
         flag: 1,
-        pointer,
-        size: seen.size,
-        wakes: Wakes::None,
+        ..keep(seen, Answer::Waits)
     }
 }
 
@@ -47,14 +38,13 @@ pub fn want(seen: Seen, flags: &[u8; MOST_LANES], lane: u8, purpose: u8) -> Chan
     ensures { result ≡ want_change seen flags.now lane purpose }
 {
     if 2 < purpose {
-        return refuse(seen, 9);
+        return refuse(seen, Refusal::AboveTwo);
     }
     if seen.gathering {
-        return refuse(seen, 12);
+        return refuse(seen, Refusal::LaneGathered);
     }
-    let phase = seen.phase;
-    if !phase_tests::is_idle(phase) {
-        return refuse(seen, 13);
+    if !phase_tests::is_idle(seen.phase) {
+        return refuse(seen, Refusal::WrongPhase);
     }
     raise(
         seen,
@@ -67,14 +57,9 @@ pub fn want(seen: Seen, flags: &[u8; MOST_LANES], lane: u8, purpose: u8) -> Chan
 fn hold(seen: Seen, purpose: Purpose, value: Place) -> Change
     ensures { result ≡ moved_to seen (Answer.Holds value) (Phase.Holding purpose value) seen.flag }
 {
-    let pointer = seen.pointer;
     Change {
-        answer: Answer::Holds { pointer: value },
         phase: Phase::Holding(purpose, value),
-        flag: seen.flag,
-        pointer,
-        size: seen.size,
-        wakes: Wakes::None,
+        ..keep(seen, Answer::Holds { pointer: value })
     }
 }
 
@@ -82,25 +67,23 @@ fn hold(seen: Seen, purpose: Purpose, value: Place) -> Change
 pub fn receive(seen: Seen) -> Change
     ensures { result ≡ receive_change seen }
 {
-    let phase = seen.phase;
-    match phase {
+    match seen.phase {
         Phase::Woken(purpose, value) => hold(seen, purpose, value),
-        Phase::Waiting(_) => refuse(seen, 14),
-        _ => refuse(seen, 13),
+        Phase::Waiting(_) => refuse(seen, Refusal::NoWakeYet),
+        _ => refuse(seen, Refusal::WrongPhase),
     }
 }
 
 // A release, of 04 and 09: the flag drops, and the next lane is woken with the pointer.
-fn release(seen: Seen, answer: Answer, phase: Phase, pointer: Place, wakes: Wakes) -> Change
+fn release(seen: Seen, answer: Answer, phase: Phase, pointer: Place, wakes: Option<u8>) -> Change
     ensures { result ≡ released_to seen answer phase pointer wakes }
 {
     Change {
-        answer,
         phase,
         flag: 0,
         pointer,
-        size: seen.size,
         wakes,
+        ..keep(seen, answer)
     }
 }
 
@@ -116,7 +99,7 @@ fn take_region(
     requires { start.0 ≤ most_pointer }
     ensures { result ≡ taken_change seen flags.now lane start count phase }
 {
-    let pointer = Place(start.0 + count as u32);
+    let pointer = Place(start.0 + u32::from(count));
     let wakes = waitlist::next_lane(seen.lanes, flags, lane);
     let answer = Answer::Region {
         start,
@@ -139,7 +122,7 @@ fn take_to_write(
     ensures { result ≡ taken_to_write seen fitting flags.now lane start count }
 {
     if !fitting {
-        return refuse(seen, 16);
+        return refuse(seen, Refusal::NoRoom);
     }
     take_region(seen, flags, lane, start, count, to_write(count, start))
 }
@@ -149,8 +132,8 @@ fn take_to_read(seen: Seen, flags: &[u8; MOST_LANES], lane: u8, start: Place, co
     requires { start.0 ≤ most_pointer }
     ensures { result ≡ taken_to_read seen flags.now lane start count }
 {
-    if LAST_PLACE < start.0 as u64 + count as u64 {
-        return refuse(seen, 15);
+    if MOST_POINTER < start.0 + u32::from(count) {
+        return refuse(seen, Refusal::PointerOutside);
     }
     take_region(seen, flags, lane, start, count, to_read(count, start))
 }
@@ -171,7 +154,7 @@ fn take_by(
     match purpose {
         Purpose::SharedWrite => take_to_write(seen, fitting, flags, lane, start, count),
         Purpose::SharedRead => take_to_read(seen, flags, lane, start, count),
-        Purpose::WholeBook => refuse(seen, 13),
+        Purpose::WholeBook => refuse(seen, Refusal::WrongPhase),
     }
 }
 
@@ -180,12 +163,11 @@ pub fn take(seen: Seen, fitting: bool, flags: &[u8; MOST_LANES], lane: u8, count
     requires { (place_in seen.phase).0 ≤ most_pointer }
     ensures { result ≡ taken_from seen fitting flags.now lane count seen.phase }
 {
-    let phase = seen.phase;
-    match phase {
+    match seen.phase {
         Phase::Holding(purpose, value) => take_by(
             seen, fitting, flags, lane, purpose, value, count,
         ),
-        _ => refuse(seen, 13),
+        _ => refuse(seen, Refusal::WrongPhase),
     }
 }
 
@@ -193,12 +175,15 @@ pub fn take(seen: Seen, fitting: bool, flags: &[u8; MOST_LANES], lane: u8, count
 pub fn free(seen: Seen, flags: &[u8; MOST_LANES], lane: u8) -> Change
     ensures { result ≡ free_change seen flags.now lane }
 {
-    let phase = seen.phase;
-    if !phase_tests::holds_whole(phase) {
-        return refuse(seen, 13);
+    if !phase_tests::holds_whole(seen.phase) {
+        return refuse(seen, Refusal::WrongPhase);
     }
-    let pointer = seen.pointer;
     let wakes = waitlist::next_lane(seen.lanes, flags, lane);
-    let answer = Answer::Freed { wakes };
-    release(seen, answer, Phase::Idle, pointer, wakes)
+    release(
+        seen,
+        Answer::Freed { wakes },
+        Phase::Idle,
+        seen.pointer,
+        wakes,
+    )
 }
