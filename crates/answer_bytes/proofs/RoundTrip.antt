@@ -1,4 +1,5 @@
 -- An answer's bytes say what the answer says, and are read back as that answer where its values are of their types; bytes that are an answer's are its bytes.
+use Rattle.std.specs.Prelude.{Some, None}
 use Prim.Native.Nat.{ℕ, ◌≤◌, ◌<◌}
 use mathlib.Core.Path.{◌≡◌, refl, sym, ap, ◌∙◌}
 use mathlib.Core.Bool.{true}
@@ -10,7 +11,6 @@ use lib.ListN.{length, length-append, take}
 use borrow.Author.Tests.{le-leb, leb-true}
 use Rattle.lists.proofs.Counts.{is_same, same_is}
 use Rattle.lists.proofs.Tests.{and_left, and_right}
-use Rattle.waitlist.specs.declared.Wakes.{Wakes}
 use Rattle.event.specs.Event.{bytes_of, fields_in}
 use Rattle.event.specs.Typed.{AreBytes}
 use Rattle.event.proofs.Fields.{bytes_length, bytes_of_fields, fields_of_any}
@@ -45,13 +45,13 @@ said_back : (a : Answer) → said_of (answer_numbers a) ≡ said_by a
 said_back (Answer.Open n m) = refl
 said_back (Answer.Holds p) = refl
 said_back Answer.Waits = refl
-said_back (Answer.Region p n (Wakes.Lane i)) = refl
-said_back (Answer.Region p n Wakes.None) = refl
+said_back (Answer.Region p n (Some i)) = refl
+said_back (Answer.Region p n None) = refl
 said_back (Answer.Wrote p) = refl
 said_back (Answer.Record n) = refl
 said_back Answer.None = refl
-said_back (Answer.Freed (Wakes.Lane i)) = refl
-said_back (Answer.Freed Wakes.None) = refl
+said_back (Answer.Freed (Some i)) = refl
+said_back (Answer.Freed None) = refl
 said_back Answer.Gathered = refl
 said_back (Answer.Ordered p n) = refl
 said_back Answer.View = refl
@@ -82,13 +82,13 @@ answer_back : (a : Answer) → AnswerFits a → answer_of (answer_numbers a) ≡
 answer_back (Answer.Open n m) f = rw (mod-eq_of_lt f)
 answer_back (Answer.Holds p) f = rw (mod-eq_of_lt f)
 answer_back Answer.Waits f = refl
-answer_back (Answer.Region p n (Wakes.Lane i)) f = rw (mod-eq_of_lt f.0, mod-eq_of_lt f.1)
-answer_back (Answer.Region p n Wakes.None) f = rw (mod-eq_of_lt f.0, mod-eq_of_lt f.1)
+answer_back (Answer.Region p n (Some i)) f = rw (mod-eq_of_lt f.0, mod-eq_of_lt f.1)
+answer_back (Answer.Region p n None) f = rw (mod-eq_of_lt f.0, mod-eq_of_lt f.1)
 answer_back (Answer.Wrote p) f = refl
 answer_back (Answer.Record n) f = refl
 answer_back Answer.None f = refl
-answer_back (Answer.Freed (Wakes.Lane i)) f = refl
-answer_back (Answer.Freed Wakes.None) f = refl
+answer_back (Answer.Freed (Some i)) f = refl
+answer_back (Answer.Freed None) f = refl
 answer_back Answer.Gathered f = refl
 answer_back (Answer.Ordered p n) f = rw (mod-eq_of_lt f)
 answer_back Answer.View f = refl

@@ -1,9 +1,8 @@
 -- An answer as bytes, in a fixed layout, and back; and what document 01 reads off it, read off the bytes. The laws: answer_bytes/RoundTrip.
-use Rattle.std.specs.Prelude.{ℕ, zero, suc, ◌%◌, Bool, not, ◌&&◌, List, [], ◌∷◌, ◌++◌, eqb, leb, get_or, length, take}
+use Rattle.std.specs.Prelude.{Option, Some, None, ℕ, zero, suc, ◌%◌, Bool, not, ◌&&◌, List, [], ◌∷◌, ◌++◌, eqb, leb, get_or, length, take}
 use Rattle.lists.specs.Lists.{same_numbers}
 use Rattle.view.specs.View.{place, position}
 use Rattle.waitlist.specs.NextLane.{wakes_values}
-use Rattle.waitlist.specs.declared.Wakes.{Wakes}
 use Rattle.event.specs.Event.{bytes_of, fields_in}
 use Rattle.steps.specs.Answer.{Said, said_by}
 use Rattle.steps.specs.declared.Answer.{Answer}
@@ -16,39 +15,39 @@ abbrev pub answer_length : ℕ
 answer_length = 16
 
 -- how many lanes are woken, 0 or 1, and which
-abbrev pub wakes_numbers : Wakes → List ℕ
+abbrev pub wakes_numbers : Option ℕ → List ℕ
 wakes_numbers w = length (wakes_values w) ∷ get_or (wakes_values w) 0 0 ∷ []
 
 -- an answer's numbers: its word's, document 01's own, the lane that is woken, and its values; what it does not have is 0
-abbrev pub numbers_with : ℕ → Answer → Wakes → ℕ → ℕ → List ℕ
+abbrev pub numbers_with : ℕ → Answer → Option ℕ → ℕ → ℕ → List ℕ
 numbers_with word answer wakes first second = word ∷ (said_by answer).number ∷ wakes_numbers wakes ++ first ∷ second ∷ []
 
 -- the words are numbered in the order in which document 01 has them, from 1; a refusal is 0
 abbrev pub answer_numbers : Answer → List ℕ
-answer_numbers (Answer.Refused number) = numbers_with 0 (Answer.Refused number) Wakes.None 0 0
-answer_numbers (Answer.Open lanes capacity) = numbers_with 1 (Answer.Open lanes capacity) Wakes.None lanes capacity
-answer_numbers (Answer.Holds pointer) = numbers_with 2 (Answer.Holds pointer) Wakes.None pointer.0 0
-answer_numbers Answer.Waits = numbers_with 3 Answer.Waits Wakes.None 0 0
+answer_numbers (Answer.Refused number) = numbers_with 0 (Answer.Refused number) None 0 0
+answer_numbers (Answer.Open lanes capacity) = numbers_with 1 (Answer.Open lanes capacity) None lanes capacity
+answer_numbers (Answer.Holds pointer) = numbers_with 2 (Answer.Holds pointer) None pointer.0 0
+answer_numbers Answer.Waits = numbers_with 3 Answer.Waits None 0 0
 answer_numbers (Answer.Region start count wakes) = numbers_with 4 (Answer.Region start count wakes) wakes start.0 count
-answer_numbers (Answer.Wrote position) = numbers_with 5 (Answer.Wrote position) Wakes.None position.0 0
-answer_numbers (Answer.Record content) = numbers_with 6 (Answer.Record content) Wakes.None content 0
-answer_numbers Answer.None = numbers_with 7 Answer.None Wakes.None 0 0
+answer_numbers (Answer.Wrote position) = numbers_with 5 (Answer.Wrote position) None position.0 0
+answer_numbers (Answer.Record content) = numbers_with 6 (Answer.Record content) None content 0
+answer_numbers Answer.None = numbers_with 7 Answer.None None 0 0
 answer_numbers (Answer.Freed wakes) = numbers_with 8 (Answer.Freed wakes) wakes 0 0
-answer_numbers Answer.Gathered = numbers_with 9 Answer.Gathered Wakes.None 0 0
-answer_numbers (Answer.Ordered before total) = numbers_with 10 (Answer.Ordered before total) Wakes.None before.0 total
-answer_numbers Answer.View = numbers_with 11 Answer.View Wakes.None 0 0
-answer_numbers (Answer.Seek pointer) = numbers_with 12 (Answer.Seek pointer) Wakes.None pointer.0 0
+answer_numbers Answer.Gathered = numbers_with 9 Answer.Gathered None 0 0
+answer_numbers (Answer.Ordered before total) = numbers_with 10 (Answer.Ordered before total) None before.0 total
+answer_numbers Answer.View = numbers_with 11 Answer.View None 0 0
+answer_numbers (Answer.Seek pointer) = numbers_with 12 (Answer.Seek pointer) None pointer.0 0
 
 abbrev pub answer_bytes : Answer → List ℕ
 answer_bytes a = bytes_of answer_lengths (answer_numbers a)
 
 -- ---- read back
-abbrev pub wakes_of : ℕ → ℕ → Wakes
-wakes_of zero lane = Wakes.None
-wakes_of (suc k) lane = Wakes.Lane lane
+abbrev pub wakes_of : ℕ → ℕ → Option ℕ
+wakes_of zero lane = None
+wakes_of (suc k) lane = Some lane
 
 -- the answers with these numbers, by their words' numbers; a value is cut to the type that `Answer` gives it
-abbrev pub answers_from : ℕ → Wakes → ℕ → ℕ → List Answer
+abbrev pub answers_from : ℕ → Option ℕ → ℕ → ℕ → List Answer
 answers_from number wakes first second =
     Answer.Refused number
     ∷ Answer.Open (first % 256) second

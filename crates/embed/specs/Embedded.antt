@@ -1,12 +1,12 @@
 -- The linked functions' answers as numbers, by `read_at` and a run's text. Not in document 01: the contract of embed::gudlemi_run and the functions beside it.
-use Rattle.std.specs.Prelude.{ℕ, ◌-◌, true, cond, ◌≡◌, List, ltb, length}
+use Rattle.std.specs.Prelude.{Some, None, Result, Ok, Err, ℕ, ◌-◌, true, cond, ◌≡◌, List, ltb, length}
 use Rattle.steps.specs.State.{State}
 use Rattle.run.specs.Runs.{left_by_run, printed_by, report_by, text_fits, text_in}
 use Rattle.report.specs.Rows.{empty_report}
 use Rattle.report.specs.declared.Report.{Report}
-use Rattle.event.specs.ReadWrite.{read_at}
-use Rattle.event.specs.declared.Reading.{Reading}
-use Rattle.answer_text.specs.declared.Printed.{Printed}
+use Rattle.event.specs.ReadWrite.{Reading, read_at}
+use Rattle.event.specs.Refusal.{number_of}
+use Rattle.answer_text.specs.declared.TooShort.{TooShort}
 use Rattle.run_text.specs.RunText.{most_text}
 use Rattle.embed.specs.declared.Linked.{Linked}
 
@@ -14,9 +14,9 @@ use Rattle.embed.specs.declared.Linked.{Linked}
 abbrev pub no_length : ℕ
 no_length = 18446744073709551615
 
-abbrev pub length_printed : Printed → ℕ
-length_printed (Printed.Length n) = n
-length_printed Printed.TooShort = no_length
+abbrev pub length_printed : Result ℕ TooShort → ℕ
+length_printed (Ok n) = n
+length_printed (Err e) = no_length
 
 -- a length and a report, as one
 abbrev pub linked_of : ℕ → Report → Linked
@@ -42,17 +42,16 @@ text_bound n = cond (ltb 329406144173384848 n) no_length (most_text n)
 
 -- by what is read at an index
 abbrev pub length_read : ℕ → Reading → ℕ
-length_read at (Reading.Event e next) = next.at - at
-length_read at Reading.End = 0
-length_read at (Reading.Refused k) = 0
+length_read at (Ok (Some (e, next))) = next.at - at
+length_read at (Ok None) = 0
+length_read at (Err k) = 0
 
 abbrev pub event_length : List ℕ → ℕ → ℕ
 event_length sheet at = length_read at (read_at sheet at)
 
 abbrev pub refusal_read : Reading → ℕ
-refusal_read (Reading.Event e next) = 0
-refusal_read Reading.End = 0
-refusal_read (Reading.Refused k) = k
+refusal_read (Ok found) = 0
+refusal_read (Err k) = number_of k
 
 abbrev pub event_refusal : List ℕ → ℕ → ℕ
 event_refusal sheet at = refusal_read (read_at sheet at)

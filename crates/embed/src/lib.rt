@@ -1,4 +1,5 @@
-// The functions that C and Rust programs link, on numbers and byte slices: a slice is a pointer and a length.
+// The functions that C and Rust programs link, on numbers and byte slices: a slice is a pointer and a length. Rust programs link these, C programs embed_c's of the
+// same names: both are the interface.
 #![tactic(auto)]
 
 ghost use Rattle.std.specs.Prelude.{◌≡◌};
@@ -7,8 +8,8 @@ ghost use Rattle.report.specs.Rows.{mean_of, remainder_of};
 ghost use Rattle.steps.specs.State.{fresh};
 ghost use Rattle.version.specs.Version.{version_number};
 
-use answer_text::{MOST_LINE, Printed};
-use event::{Cursor, Reading};
+use answer_text::{MOST_LINE, TooShort};
+use event::Cursor;
 use line::Line;
 use report::Report;
 use run::run_reported;
@@ -17,34 +18,27 @@ use run_text::MOST_LAST;
 pub mod single_calls;
 
 // What a run over a report handed by value answers: the length of its text as `gudlemi_run` answers it, and the report as the run leaves it.
-#[derive(Clone, Copy)]
+#[derive(Clone, Copy, Debug, PartialEq, Eq)]
 pub struct Linked {
     pub length: usize,
     pub report: Report,
 }
 
 // The length of a printed text, or the greatest number where there is none.
-fn length_of(printed: Printed) -> usize
+fn length_of(printed: Result<usize, TooShort>) -> usize
     ensures { result ≡ length_printed printed }
 {
-    match printed {
-        Printed::Length(length) => length,
-        Printed::TooShort => 18446744073709551615,
-    }
+    printed.unwrap_or(usize::MAX)
 }
 
 // Runs a whole sheet from an unopened line over a lent book, with a report by value: the one way in which the linked functions run.
 fn run_linked(sheet: &[u8], book: &mut [u8], text: &mut [u8], report: Report) -> Linked
     ensures { LinkedMeets (fresh book.old) report sheet.now text.old result book.new text.new }
 {
-    let line = Line::unopened();
-    let ran = run_reported(line, book, sheet, text, report);
-    let left = ran.report;
-    let printed = ran.printed;
-    let length = length_of(printed);
+    let ran = run_reported(Line::unopened(), book, sheet, text, report);
     Linked {
-        length,
-        report: left,
+        length: length_of(ran.printed),
+        report: ran.report,
     }
 }
 
@@ -54,8 +48,7 @@ fn run_linked(sheet: &[u8], book: &mut [u8], text: &mut [u8], report: Report) ->
 pub extern "C" fn gudlemi_run(sheet: &[u8], book: &mut [u8], text: &mut [u8]) -> usize
     ensures { LinkedRun (fresh book.old) sheet.now text.old result book.new text.new }
 {
-    let ran = run_linked(sheet, book, text, Report::empty());
-    ran.length
+    run_linked(sheet, book, text, Report::empty()).length
 }
 
 // Runs a whole sheet as `gudlemi_run` does, over a lent report, which grows in place.
@@ -96,7 +89,7 @@ pub extern "C" fn gudlemi_text_bound(sheet: usize) -> usize
 {
     // the greatest length for which the product and the sum do not wrap
     if 329406144173384848 < sheet {
-        return 18446744073709551615;
+        return usize::MAX;
     }
     sheet * MOST_LINE + MOST_LAST
 }
@@ -106,11 +99,9 @@ pub extern "C" fn gudlemi_text_bound(sheet: usize) -> usize
 pub extern "C" fn gudlemi_event_length(sheet: &[u8], at: usize) -> usize
     ensures { result ≡ event_length sheet.now at }
 {
-    let reading = decode::read_event(sheet, Cursor { at });
-    match reading {
-        Reading::Event { event: _, next } => next.at - at,
-        Reading::End => 0,
-        Reading::Refused(_) => 0,
+    match decode::read_event(sheet, Cursor { at }) {
+        Ok(Some((_, next))) => next.at - at,
+        Ok(None) | Err(_) => 0,
     }
 }
 
@@ -119,11 +110,9 @@ pub extern "C" fn gudlemi_event_length(sheet: &[u8], at: usize) -> usize
 pub extern "C" fn gudlemi_event_refusal(sheet: &[u8], at: usize) -> u8
     ensures { result ≡ event_refusal sheet.now at }
 {
-    let reading = decode::read_event(sheet, Cursor { at });
-    match reading {
-        Reading::Event { event: _, next: _ } => 0,
-        Reading::End => 0,
-        Reading::Refused(number) => number,
+    match decode::read_event(sheet, Cursor { at }) {
+        Ok(_) => 0,
+        Err(reason) => reason.number(),
     }
 }
 

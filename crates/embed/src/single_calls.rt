@@ -13,6 +13,9 @@ use answer_text::print_answer;
 use state_bytes::{STATE_LENGTH, head};
 use state_calls::told;
 
+// Told where there is nothing to tell: the greatest number.
+const NOTHING: u64 = u64::MAX;
+
 // Makes one call on the line in the state bytes, over its book; the answer goes to the start of its buffer.
 #[unsafe(no_mangle)]
 pub extern "C" fn gudlemi_call(
@@ -40,10 +43,7 @@ pub extern "C" fn gudlemi_unopened(state: &mut [u8]) -> u8
 pub extern "C" fn gudlemi_is_sound(state: &[u8], book: usize) -> u8
     ensures { result ≡ bit (sound_in state.now book) }
 {
-    if told::is_sound(state, book) {
-        return 1;
-    }
-    0
+    u8::from(told::is_sound(state, book))
 }
 
 // What a lane is doing, its entry as one number; the greatest number where there is none.
@@ -51,7 +51,7 @@ pub extern "C" fn gudlemi_is_sound(state: &[u8], book: usize) -> u8
 pub extern "C" fn gudlemi_lane(state: &[u8], lane: u8) -> u64
     ensures { result ≡ lane_told state.now lane }
 {
-    told::lane(state, lane)
+    told::lane(state, lane).unwrap_or(NOTHING)
 }
 
 // A number of the line by its index; the greatest number where there is none.
@@ -59,7 +59,7 @@ pub extern "C" fn gudlemi_lane(state: &[u8], lane: u8) -> u64
 pub extern "C" fn gudlemi_number(state: &[u8], index: u8) -> u64
     ensures { result ≡ number_told state.now index }
 {
-    told::number(state, index)
+    told::number(state, index).unwrap_or(NOTHING)
 }
 
 // The position of a place in the line's view; the greatest number where there is no line.
@@ -67,7 +67,7 @@ pub extern "C" fn gudlemi_number(state: &[u8], index: u8) -> u64
 pub extern "C" fn gudlemi_position(state: &[u8], place: u32) -> u64
     ensures { result ≡ position_told state.now place }
 {
-    told::position(state, place)
+    told::position(state, place).unwrap_or(NOTHING)
 }
 
 // The printed line of an answer at the start of `text`, and its length; 0 where the bytes are no answer, the greatest number where `text` is too short.
@@ -78,9 +78,7 @@ pub extern "C" fn gudlemi_answer_text(answer: &[u8], number: u64, text: &mut [u8
     if !answer_bytes::is_answer(answer) {
         return 0;
     }
-    let given = answer_bytes::answer_in(answer);
-    let printed = print_answer(text, number, given);
-    length_of(printed)
+    length_of(print_answer(text, number, answer_bytes::answer_in(answer)))
 }
 
 // The length of a state, that of an answer, and the number of their layout.

@@ -9,9 +9,12 @@ ghost use Rattle.report.specs.Rows.{empty_report, empty_row, mean_of, remainder_
 
 use limits::{MOST_LANES, MOST_SHEET};
 
+// 2^63, at which a number of a lent report is too large to grow.
+const FULL: u64 = 9223372036854775808;
+
 // Of the waits that ended how many, and the sum and the largest of their releases; and how many had not ended.
 #[repr(C)]
-#[derive(Clone, Copy)]
+#[derive(Clone, Copy, Debug, PartialEq, Eq)]
 pub struct Row {
     pub times: u64,
     pub sum: u64,
@@ -21,7 +24,7 @@ pub struct Row {
 
 // A row for each lane, and one for all lanes, which grows from its own values.
 #[repr(C)]
-#[derive(Clone, Copy)]
+#[derive(Clone, Copy, Debug, PartialEq, Eq)]
 pub struct Report {
     pub lane: [Row; MOST_LANES],
     pub all: Row,
@@ -39,6 +42,13 @@ impl Row {
             unended: 0,
         }
     }
+
+    // Whether a number of the row is too large.
+    fn is_full(self) -> bool
+        ensures { result ≡ is_full_row self }
+    {
+        FULL <= self.times || FULL <= self.sum || FULL <= self.largest || FULL <= self.unended
+    }
 }
 
 impl Report {
@@ -52,73 +62,39 @@ impl Report {
             all: row,
         }
     }
+
+    // Whether a number of a row is too large.
+    fn is_full(self) -> bool
+        ensures { result ≡ is_full self }
+    {
+        self.all.is_full() || any_full(&self.lane)
+    }
+}
+
+// Whether a number of these rows is too large.
+fn any_full(rows: &[Row]) -> bool
+    ensures { result ≡ some_pass is_full_row rows.now }
+{
+    rows.iter().any(|row| row.is_full())
 }
 
 // The whole part of a row's mean, by its times and its sum; 0 where there is no time.
 pub fn mean(times: u64, sum: u64) -> u64
     ensures { result ≡ mean_of times sum }
 {
-    if times == 0 {
-        return 0;
-    }
-    sum / times
+    sum.checked_div(times).unwrap_or(0)
 }
 
 // What remains of the sum; 0 where there is no time.
 pub fn remainder(times: u64, sum: u64) -> u64
     ensures { result ≡ remainder_of times sum }
 {
-    if times == 0 {
-        return 0;
-    }
-    sum % times
-}
-
-// 2^63, at which a number of a lent report is too large to grow.
-const FULL: u64 = 9223372036854775808;
-
-// Whether a number of a row is too large.
-fn is_full_row(row: Row) -> bool
-    ensures { result ≡ is_full_row row }
-{
-    if FULL <= row.times {
-        return true;
-    }
-    if FULL <= row.sum {
-        return true;
-    }
-    if FULL <= row.largest {
-        return true;
-    }
-    FULL <= row.unended
-}
-
-// Whether a number of these rows is too large.
-fn any_full(rows: [Row; MOST_LANES]) -> bool
-    ensures { result ≡ some_pass is_full_row rows }
-{
-    let mut i: usize = 0;
-    while i < MOST_LANES {
-        let row = rows[i];
-        if is_full_row(row) {
-            return true;
-        }
-        i += 1;
-    }
-    false
+    sum.checked_rem(times).unwrap_or(0)
 }
 
 // 17: a number of the report is too large, or the sheet is too long.
 pub fn cannot_count(report: Report, sheet: usize) -> bool
     ensures { result ≡ (is_full report || ltb most_sheet sheet) }
 {
-    let all = report.all;
-    if is_full_row(all) {
-        return true;
-    }
-    let rows = report.lane;
-    if any_full(rows) {
-        return true;
-    }
-    MOST_SHEET < sheet
+    report.is_full() || MOST_SHEET < sheet
 }

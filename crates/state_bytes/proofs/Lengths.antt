@@ -5,44 +5,21 @@ use mathlib.Core.Bool.{true}
 use mathlib.Core.List.{List, [], ◌∷◌, ◌++◌}
 use native.Mathlib.Omega.{arith}
 use lib.Dec.{eqb, leb}
-use lib.ListN.{drop, get_or, length, length-append, length-drop, length-map}
+use lib.ListN.{drop, length, length-append, length-drop, length-map}
 use lib.Seq.{length-take-le, sets}
 use borrow.Author.Tests.{eqb-true, leb-true}
 use Rattle.limits.specs.Limits.{most_lanes}
 use Rattle.lists.specs.Lists.{all_pass}
 use Rattle.lists.proofs.Sets.{sets_append}
 use Rattle.lists.proofs.Tests.{every_nth}
-use Rattle.view.specs.View.{block}
-use Rattle.view.specs.declared.Block.{Block}
 use Rattle.line.specs.Line.{Shaped}
 use Rattle.line.specs.declared.Lane.{Lane}
 use Rattle.line.specs.declared.Line.{Line}
 use Rattle.event.specs.Event.{block_numbers, bytes_of}
+use Rattle.event.proofs.Blocks.{block_numbers_length}
 use Rattle.event.proofs.Fields.{bytes_length}
 use Rattle.state_bytes.specs.StateBytes.{entries_at, entries_in, entries_of, entry_bytes, flags_at, head_lengths, head_numbers, is_entry, is_state, lane_of, layout, line_in, mark, number_at, state_bytes, state_length}
 use Rattle.state_bytes.proofs.Walk.{entry_length}
-
--- a block that stands for none
-abbrev pub no_block : Block
-no_block = block 0 0
-
--- a list of eight is its eight elements
-pub eight_are : (bs : List Block) → length bs ≡ 8
-    → get_or bs 0 no_block ∷ get_or bs 1 no_block ∷ get_or bs 2 no_block ∷ get_or bs 3 no_block ∷ get_or bs 4 no_block ∷ get_or bs 5 no_block ∷ get_or bs 6 no_block ∷ get_or bs 7 no_block ∷ [] ≡ bs
-eight_are [] h = absurd (omega arith)
-eight_are (a ∷ []) h = absurd (omega arith)
-eight_are (a ∷ b ∷ []) h = absurd (omega arith)
-eight_are (a ∷ b ∷ c ∷ []) h = absurd (omega arith)
-eight_are (a ∷ b ∷ c ∷ d ∷ []) h = absurd (omega arith)
-eight_are (a ∷ b ∷ c ∷ d ∷ e ∷ []) h = absurd (omega arith)
-eight_are (a ∷ b ∷ c ∷ d ∷ e ∷ f ∷ []) h = absurd (omega arith)
-eight_are (a ∷ b ∷ c ∷ d ∷ e ∷ f ∷ g ∷ []) h = absurd (omega arith)
-eight_are (a ∷ b ∷ c ∷ d ∷ e ∷ f ∷ g ∷ i ∷ []) h = refl
-eight_are (a ∷ b ∷ c ∷ d ∷ e ∷ f ∷ g ∷ i ∷ j ∷ js) h = absurd (omega arith)
-
-pub block_numbers_length : (bs : List Block) → length (block_numbers bs) ≡ 2 * length bs
-block_numbers_length [] = refl
-block_numbers_length (b ∷ bs) = omega (arith, block_numbers_length bs)
 
 pub head_counted : (l : Line) → length l.view.block ≡ 8 → length head_lengths ≡ length (head_numbers l)
 head_counted l h =

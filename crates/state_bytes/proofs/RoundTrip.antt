@@ -21,11 +21,12 @@ use Rattle.line.specs.declared.Phase.{Phase}
 use Rattle.line.specs.declared.Purpose.{Purpose}
 use Rattle.event.specs.Event.{block_numbers, bytes_of, fields_in}
 use Rattle.event.specs.Typed.{AreBytes}
+use Rattle.event.proofs.Blocks.{eight_are}
 use Rattle.event.proofs.Fields.{bytes_drop, bytes_of_fields, fields_of_any}
 use Rattle.steps.specs.Effects.{purpose_of}
 use Rattle.state_bytes.specs.StateBytes.{entries_at, entries_in, entries_of, entry_bytes, entry_lengths, entry_numbers, flags_at, head_lengths, head_numbers, is_entry, is_state, lane_of, lanes_in, line_in, number_at, phase_of, purpose_number, state_bytes, state_length, view_in}
 use Rattle.state_bytes.proofs.Walk.{entry_length}
-use Rattle.state_bytes.proofs.Lengths.{eight_are, entries_length, head_counted, head_length, parts_of, state_length_lem, state_long}
+use Rattle.state_bytes.proofs.Lengths.{entries_length, head_counted, head_length, parts_of, state_length_lem, state_long}
 
 -- ---- an entry
 purpose_back : (p : Purpose) → purpose_of (purpose_number p) ≡ p

@@ -1,44 +1,41 @@
--- What the loops over entries and flags have left, and the phase of each number.
+-- What the loops over entries have left, arrays made from a function of the index, and a part of a list written over.
 use Prim.Native.Nat.{ℕ, zero, suc, ◌+◌, ◌-◌, ◌*◌, ◌≤◌, ◌<◌}
-use mathlib.Core.Path.{◌≡◌, refl, ap, ◌∙◌}
+use mathlib.Core.Path.{◌≡◌, refl, ap, subst, ◌∙◌}
 use mathlib.Core.Bool.{true, false}
-use mathlib.Core.List.{List, [], ◌∷◌, ◌++◌, map}
-use native.Mathlib.Numerals.{add-one}
+use mathlib.Core.List.{List, [], ◌∷◌, append_assoc, map}
 use native.Mathlib.Omega.{arith}
-use lib.ListN.{drop, get_or, length, set, take}
-use lib.Seq.{append_snoc, drop-drop, sets, take-suc-set}
+use lib.ListN.{drop, get_or, length, take}
+use lib.Seq.{drop-drop}
+use borrow.Rule.Slice.PartMut.{put_mid}
+use denote.Param.Members.{Called, Mut}
+use Rattle.std.specs.Array.{IsFromFnResult, IsFromFnResultFrom}
+use Rattle.std.specs.List.{range_with_len}
+use Rattle.std.proofs.lemmas.List.Edits.{sets, sets-eq}
 use Rattle.lists.specs.Lists.{all_pass}
 use Rattle.lists.proofs.Loops.{drop_end}
 use Rattle.lists.proofs.Parts.{drop_more}
 use Rattle.lists.proofs.Sets.{sets_append}
-use Rattle.view.specs.declared.Place.{Place}
 use Rattle.line.specs.Line.{idle_lane}
 use Rattle.line.specs.declared.Lane.{Lane}
-use Rattle.line.specs.declared.Phase.{Phase}
-use Rattle.line.specs.declared.Purpose.{Purpose}
 use Rattle.event.specs.Event.{fields_in}
 use Rattle.event.proofs.Fields.{bytes_length}
 use Rattle.decode_fields.proofs.Numbers.{number_of_one}
-use Rattle.state_bytes.specs.StateBytes.{entries_in, entries_of, entry_bytes, entry_lengths, entry_numbers, is_entry, lane_of, number_at, phases_from}
+use Rattle.state_bytes.specs.StateBytes.{entries_in, entries_of, entry_bytes, entry_lengths, entry_numbers, is_entry, lane_at, lane_of, number_at}
 
--- ---- an array filled from its start
--- one element more
-pub filled : {A : Type 0} (l ys : List A) (i : ℕ) (x : A) → i < length l → take (i + 1) (set l i x) ++ ys ≡ take i l ++ (x ∷ ys)
-filled l ys i x h = rw (add-one, take-suc-set l i x h) (append_snoc (take i l) x ys)
+-- ---- an array made from a function of the index
+module _ {F B : Type 0} (g : Mut F (ℕ × Unit {0}) B) (h : ℕ → B) (f : F) (n : ℕ) (step : (i : ℕ) (y : B) (f' : F) → i < n → Called g f (i, tt) y f' → (y ≡ h i) × (f' ≡ f)) where
+  made_from : (ys : List B) (p : F) (i k : ℕ) → p ≡ f → i + k ≡ n → length ys ≡ n → IsFromFnResultFrom g p ys i k → drop i ys ≡ map h (range_with_len i k)
+  made_from ys p i zero e s l made = drop_end ys i (omega arith)
+  made_from ys p i (suc k) e s l made =
+      let call = subst (λ (q : F). Called g q (i, tt) made.1 made.0) e made.3 in
+      let one = step i made.1 made.0 (omega arith) call in
+      let there : i < length ys = omega arith in
+      rw (drop_more ys i made.1 there, made.2.0, one.0, made_from ys made.0 (i + 1) k one.1 (omega arith) l made.4)
+
+  pub made_by : (ys : List B) → IsFromFnResult g f ys n → ys ≡ map h (range_with_len 0 n)
+  made_by ys made = made_from ys f 0 n refl (omega arith) made.long made.each
 
 -- ---- entries read
--- a number that names no other phase names idle
-pub other_phase : (p : Purpose) (r : ℕ) (k : Place) (n : ℕ) → (n ≡ 1 → ⊥) → (n ≡ 2 → ⊥) → (n ≡ 3 → ⊥) → (n ≡ 4 → ⊥) → (n ≡ 5 → ⊥) → (n ≡ 6 → ⊥)
-    → Phase.Idle ≡ get_or (phases_from p r k) n Phase.Idle
-other_phase p r k zero a b c d e f = refl
-other_phase p r k (suc zero) a b c d e f = absurd (a refl)
-other_phase p r k (suc (suc zero)) a b c d e f = absurd (b refl)
-other_phase p r k (suc (suc (suc zero))) a b c d e f = absurd (c refl)
-other_phase p r k (suc (suc (suc (suc zero)))) a b c d e f = absurd (d refl)
-other_phase p r k (suc (suc (suc (suc (suc zero))))) a b c d e f = absurd (e refl)
-other_phase p r k (suc (suc (suc (suc (suc (suc zero)))))) a b c d e f = absurd (f refl)
-other_phase p r k (suc (suc (suc (suc (suc (suc (suc n))))))) a b c d e f = refl
-
 -- the entries from the i-th of n on, the first of them at byte `at`
 abbrev pub entries_from : List ℕ → ℕ → ℕ → ℕ → List (List ℕ)
 entries_from bytes at n i = entries_in (n - i) (drop (at + 8 * i) bytes)
@@ -65,10 +62,17 @@ module _ (bytes : List ℕ) (at n i : ℕ) where
   pub ok_end : n ≤ i → all_pass is_entry (entries_from bytes at n i) ≡ true
   ok_end h = ap (all_pass is_entry) (entries_end h)
 
-  -- one lane more
-  pub lane_more : (lanes : List Lane) (x : Lane) → i < n → i < length lanes → x ≡ lane_of (fields_in entry_lengths (drop (at + 8 * i) bytes))
-      → take (i + 1) (set lanes i x) ++ map lane_of (entries_from bytes at n (i + 1)) ≡ take i lanes ++ map lane_of (entries_from bytes at n i)
-  lane_more lanes x h k e = filled lanes (map lane_of (entries_from bytes at n (i + 1))) i x k ∙ rw (entries_more h, e)
+lanes_from : (bytes : List ℕ) (at i n : ℕ) → map (λ (k : ℕ). lane_at (at + 8 * k) bytes) (range_with_len i n) ≡ map lane_of (entries_in n (drop (at + 8 * i) bytes))
+unfolding entries_in
+lanes_from bytes at i zero = refl
+lanes_from bytes at i (suc n) =
+    let next : at + 8 * i + 8 ≡ at + 8 * (i + 1) = omega arith in
+    rw (drop-drop 8 (at + 8 * i) bytes, next, lanes_from bytes at (i + 1) n)
+
+pub lanes_are : (bytes : List ℕ) (at n : ℕ) → map (λ (k : ℕ). lane_at (at + 8 * k) bytes) (range_with_len 0 n) ≡ map lane_of (entries_in n (drop at bytes))
+lanes_are bytes at n =
+    let start : at + 8 * 0 ≡ at = omega arith in
+    rw start at (lanes_from bytes at 0 n)
 
 -- ---- entries stored
 pub entry_length : (x : Lane) → length (entry_bytes x) ≡ 8
@@ -86,21 +90,20 @@ pub stored_end : (l : List ℕ) (lanes : List Lane) (at i : ℕ) → length lane
 unfolding entries_of
 stored_end l lanes at i h = rw (drop_end lanes i h)
 
--- ---- flags read
-pub flag_more : (bytes flags : List ℕ) (at n i : ℕ) → i < n → i < length flags → at + i < length bytes
-    → take (i + 1) (set flags i (get_or bytes (at + i) 0)) ++ take (n - (i + 1)) (drop (at + (i + 1)) bytes) ≡ take i flags ++ take (n - i) (drop (at + i) bytes)
-flag_more bytes flags at n i h k room =
-    let left : n - i ≡ suc (n - (i + 1)) = omega arith in
-    let next : at + i + 1 ≡ at + (i + 1) = omega arith in
-    filled flags (take (n - (i + 1)) (drop (at + (i + 1)) bytes)) i (get_or bytes (at + i) 0) k ∙ rw (left, drop_more bytes (at + i) 0 room, next)
+-- ---- flags stored
+-- a part of a list written over
+pub part_stored : (xs ys : List ℕ) (a k : ℕ) → length ys ≡ k → a + k ≤ length xs → put_mid a k xs ys ≡ sets xs a ys
+part_stored xs ys a k e h =
+    let room : a + length ys ≤ length xs = omega arith in
+    rw (sets-eq ys xs a room, e, drop-drop k a xs, append_assoc (take a xs) ys (drop (a + k) xs))
 
 -- ---- the numbers of one entry
-pub entry_fields : (bytes : List ℕ) (at : ℕ) → at + 8 ≤ length bytes
-    → get_or bytes at 0 ∷ get_or bytes (at + 1) 0 ∷ number_at (at + 2) 2 bytes ∷ number_at (at + 4) 4 bytes ∷ [] ≡ fields_in entry_lengths (drop at bytes)
+pub entry_fields : (bytes : List ℕ) (at records k : ℕ) → at + 8 ≤ length bytes → records ≡ number_at (at + 2) 2 bytes → k ≡ number_at (at + 4) 4 bytes
+    → get_or bytes at 0 ∷ get_or bytes (at + 1) 0 ∷ records ∷ k ∷ [] ≡ fields_in entry_lengths (drop at bytes)
 unfolding fields_in
-entry_fields bytes at room =
+entry_fields bytes at records k room e f =
     let two : at + 1 + 1 ≡ at + 2 = omega arith in
     let four : at + 2 + 2 ≡ at + 4 = omega arith in
     let first : at < length bytes = omega arith in
     let second : at + 1 < length bytes = omega arith in
-    rw (drop-drop 1 at bytes, drop-drop 1 (at + 1) bytes, two, drop-drop 2 (at + 2) bytes, four, number_of_one bytes at first, number_of_one bytes (at + 1) second)
+    rw (e, f, drop-drop 1 at bytes, drop-drop 1 (at + 1) bytes, two, drop-drop 2 (at + 2) bytes, four, number_of_one bytes at first, number_of_one bytes (at + 1) second)

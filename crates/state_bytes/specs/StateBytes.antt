@@ -108,6 +108,10 @@ view_in bytes =
 abbrev pub lane_of : List ℕ → Lane
 lane_of numbers = lane (phase_of numbers)
 
+-- the lane that the entry at an index names
+abbrev pub lane_at : ℕ → List ℕ → Lane
+lane_at at bytes = lane_of (fields_in entry_lengths (drop at bytes))
+
 abbrev pub lanes_in : List ℕ → List Lane
 lanes_in bytes = map lane_of (entries_in most_lanes (drop entries_at bytes))
 

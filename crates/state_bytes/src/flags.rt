@@ -4,6 +4,7 @@ ghost use Rattle.std.proofs.lemmas.List.Edits.{sets};
 ghost use Rattle.limits.specs.Limits.{most_lanes};
 ghost use Rattle.state_bytes.specs.StateBytes.{flags_at, state_length};
 
+use crate::STATE_LENGTH;
 use limits::MOST_LANES;
 
 // Where the flags start.
@@ -13,22 +14,14 @@ pub fn flags_in(bytes: &[u8]) -> [u8; MOST_LANES]
     requires { state_length ≤ length bytes.now }
     ensures { result ≡ take most_lanes (drop flags_at bytes.now) }
 {
-    let mut flag = [0u8; MOST_LANES];
-    let mut i: usize = 0;
-    while i < MOST_LANES {
-        flag[i] = bytes[FLAGS_AT + i];
-        i += 1;
-    }
-    flag
+    let mut flags = [0u8; MOST_LANES];
+    flags.copy_from_slice(&bytes[FLAGS_AT..STATE_LENGTH]);
+    flags
 }
 
-pub fn put_flags(bytes: &mut [u8], flag: [u8; MOST_LANES])
+pub fn put_flags(bytes: &mut [u8], flags: [u8; MOST_LANES])
     requires { state_length ≤ length bytes.old }
-    ensures { bytes.new ≡ sets bytes.old flags_at flag }
+    ensures { bytes.new ≡ sets bytes.old flags_at flags }
 {
-    let mut i: usize = 0;
-    while i < MOST_LANES {
-        bytes[FLAGS_AT + i] = flag[i];
-        i += 1;
-    }
+    bytes[FLAGS_AT..STATE_LENGTH].copy_from_slice(&flags);
 }

@@ -1,16 +1,14 @@
 // The head of a state: the mark, the layout, and the numbers of the line with its view.
-ghost use Rattle.std.specs.Prelude.{◌≡◌, ◌+◌, ◌≤◌, length, replicate, ◌∷◌};
+ghost use Rattle.std.specs.Prelude.{◌≡◌, ◌+◌, ◌≤◌, length};
 ghost use Rattle.std.proofs.lemmas.List.Edits.{sets};
-ghost use Rattle.event.specs.Event.{block_list, bytes_of};
+ghost use Rattle.event.specs.Event.{bytes_of};
 ghost use Rattle.view.specs.View.{place};
-ghost use Rattle.encode_fields.specs.Put.{put_fields};
-ghost use Rattle.state_bytes.specs.StateBytes.{block_at, entries_at, head_lengths, head_numbers, number_at, view_in, view_numbers};
+ghost use Rattle.state_bytes.specs.StateBytes.{block_at, entries_at, head_lengths, head_numbers, number_at, view_in};
 
 use decode_fields::{number16, number32};
-use encode_fields::{put_blocks, put_u8, put_u16, put_u32};
-use event::Blocks;
-use limits::MOST_BLOCKS;
+use encode_fields::Field;
 use line::Line;
+use std::array;
 use view::{Block, Place, View};
 
 // "GUDL" in ASCII.
@@ -40,63 +38,24 @@ pub fn view_in(bytes: &[u8]) -> View
     requires { entries_at ≤ length bytes.now }
     ensures { result ≡ view_in bytes.now }
 {
-    let b0 = block_at(bytes, 28);
-    let b1 = block_at(bytes, 32);
-    let b2 = block_at(bytes, 36);
-    let b3 = block_at(bytes, 40);
-    let b4 = block_at(bytes, 44);
-    let b5 = block_at(bytes, 48);
-    let b6 = block_at(bytes, 52);
-    let b7 = block_at(bytes, 56);
     View {
         displacement: number32(bytes, 21),
         extent: number16(bytes, 25),
         used: bytes[27],
-        block: [b0, b1, b2, b3, b4, b5, b6, b7],
+        block: array::from_fn(|i| block_at(bytes, 28 + 4 * i)),
     }
 }
 
-// The blocks of a view as those of an event.
-fn blocks_of(block: [Block; MOST_BLOCKS]) -> Blocks
-    ensures { block_list result ≡ block }
-{
-    Blocks {
-        b0: block[0],
-        b1: block[1],
-        b2: block[2],
-        b3: block[3],
-        b4: block[4],
-        b5: block[5],
-        b6: block[6],
-        b7: block[7],
-    }
-}
-
-// Stores a view as the body of 0B does.
-fn put_view(bytes: &mut [u8], at: usize, view: View)
-    requires { at + 39 ≤ length bytes.old }
-    ensures { bytes.new ≡ put_fields (4 ∷ 2 ∷ 1 ∷ replicate 16 2) (view_numbers view) bytes.old at }
-{
-    let block = view.block;
-    let blocks = blocks_of(block);
-    put_u32(bytes, at, view.displacement);
-    put_u16(bytes, at + 4, view.extent);
-    put_u8(bytes, at + 6, view.used);
-    put_blocks(bytes, at + 7, blocks);
-}
-
+// Stores the head, its view as the body of 0B.
+#[tactic(auto, unfolding(encode_fields::specs::Put::put_fields))]
 pub fn put_head(bytes: &mut [u8], line: Line)
     requires { entries_at ≤ length bytes.old }
     ensures { bytes.new ≡ sets bytes.old 0 (bytes_of head_lengths (head_numbers line)) }
 {
-    let pointer = line.pointer;
+    let numbers = (line.lanes, (line.capacity, (line.size, line.pointer.0)));
     let view = line.view;
-    put_u32(bytes, 0, MARK);
-    put_u32(bytes, 4, LAYOUT);
-    put_u8(bytes, 8, line.lanes);
-    put_u32(bytes, 9, line.capacity);
-    put_u32(bytes, 13, line.size);
-    put_u32(bytes, 17, pointer.0);
-    put_view(bytes, 21, view);
-    put_u32(bytes, 60, 0);
+    // A local of its own: the check has no proof for an array that goes into a tuple straight from a field.
+    let blocks = view.block;
+    let fields = (view.displacement, (view.extent, (view.used, blocks)));
+    ((MARK, LAYOUT), (numbers, (fields, 0u32))).put(bytes, 0);
 }

@@ -16,22 +16,15 @@ pub mod head;
 pub const STATE_LENGTH: usize = 1216;
 
 // Whether bytes begin with the state of a line, sound or not.
+#[tactic(auto, unfolding(crate::specs::StateBytes::is_state))]
 pub fn is_state(bytes: &[u8]) -> bool
     ensures { result ≡ is_state bytes.now }
 {
-    if bytes.len() < STATE_LENGTH {
-        return false;
-    }
-    if number32(bytes, 0) != head::MARK {
-        return false;
-    }
-    if number32(bytes, 4) != head::LAYOUT {
-        return false;
-    }
-    if number32(bytes, 60) != 0 {
-        return false;
-    }
-    entries::entries_ok(bytes)
+    bytes.len() >= STATE_LENGTH
+        && number32(bytes, 0) == head::MARK
+        && number32(bytes, 4) == head::LAYOUT
+        && number32(bytes, 60) == 0
+        && entries::entries_ok(bytes)
 }
 
 // The line whose state the bytes are.
@@ -39,29 +32,24 @@ pub fn line_in(bytes: &[u8]) -> Line
     requires { state_length ≤ length bytes.now }
     ensures { result ≡ line_in bytes.now }
 {
-    let view = head::view_in(bytes);
-    let pointer = head::pointer_in(bytes);
-    let lane = entries::lanes_in(bytes);
-    let flag = flags::flags_in(bytes);
     Line {
         lanes: bytes[8],
         capacity: number32(bytes, 9),
         size: number32(bytes, 13),
-        pointer,
-        view,
-        lane,
-        flag,
+        pointer: head::pointer_in(bytes),
+        view: head::view_in(bytes),
+        lane: entries::lanes_in(bytes),
+        flag: flags::flags_in(bytes),
     }
 }
 
 // Stores the state of a line at the start of the bytes; those past it stay.
+#[tactic(auto, using(crate::proofs::Lengths::parts_stored, refuse::proofs::Shape::shape_of))]
 pub fn put_state(bytes: &mut [u8], line: Line)
     requires { state_length ≤ length bytes.old }
     ensures { bytes.new ≡ sets bytes.old 0 (state_bytes line) }
 {
-    let lane = line.lane;
-    let flag = line.flag;
     head::put_head(bytes, line);
-    entries::put_lanes(bytes, lane);
-    flags::put_flags(bytes, flag);
+    entries::put_lanes(bytes, line.lane);
+    flags::put_flags(bytes, line.flag);
 }

@@ -1,4 +1,3 @@
 -- The laws behind calls over state bytes.
-pub mod Answers
 pub mod Meets
 pub mod Numbers

@@ -9,6 +9,7 @@ ghost use Rattle.steps.specs.Answer.{said_by};
 ghost use Rattle.state_calls.specs.StateCalls.{CallMeets, call_state, status_of, unopened_status, unopened_to};
 
 use answer_bytes::{ANSWER_LENGTH, put_answer};
+use event::Refusal;
 use event_calls::call_bytes;
 use line::Line;
 use state_bytes::{STATE_LENGTH, is_state, line_in, put_state};
@@ -16,45 +17,25 @@ use steps::{Answer, Outcome};
 
 pub mod told;
 
-// What a function answers where the state or the answer buffer is too short.
-pub const STATE_TOO_SHORT: u8 = 254;
-
-pub const ANSWER_TOO_SHORT: u8 = 255;
-
-// Whether an answer is that of an accepted call.
-fn is_accepted(answer: Answer) -> bool
-    ensures { result ≡ (said_by answer).accepted }
-{
-    match answer {
-        Answer::Refused { number: _ } => false,
-        _ => true,
-    }
+// The buffer that is too short for a call, as the C interface numbers it beside the refusals.
+#[derive(Clone, Copy, Debug, PartialEq, Eq)]
+pub enum ShortBuffer {
+    State = 254,
+    Answer = 255,
 }
 
-// 0 of an accepted call, else the number of the refusal.
-fn status_of(answer: Answer) -> u8
-    ensures { result ≡ status_of answer }
-{
-    match answer {
-        Answer::Refused { number } => number,
-        _ => 0,
-    }
-}
-
-// Stores the answer of a call and, where it is accepted, the line after it; the call's status.
+// Stores the answer of a call and, where it is accepted, the line after it; 0, or the number of the refusal.
 fn store(outcome: Outcome, state: &mut [u8], answer: &mut [u8]) -> u8
     requires { (state_length ≤ length state.old) × (answer_length ≤ length answer.old) }
     ensures status { result ≡ status_of outcome.answer }
     ensures line { state.new ≡ cond (said_by outcome.answer).accepted (sets state.old 0 (state_bytes outcome.line)) state.old }
     ensures told { answer.new ≡ sets answer.old 0 (answer_bytes outcome.answer) }
 {
-    let given = outcome.answer;
-    put_answer(answer, given);
-    if !is_accepted(given) {
-        return status_of(given);
+    put_answer(answer, outcome.answer);
+    if let Answer::Refused { number } = outcome.answer {
+        return number;
     }
-    let line = outcome.line;
-    put_state(state, line);
+    put_state(state, outcome.line);
     0
 }
 
@@ -64,14 +45,15 @@ pub fn call_state(state: &mut [u8], book: &mut [u8], kind: u8, body: &[u8], answ
     ensures { CallMeets (call_state state.old book.old kind body.now answer.old) result state.new book.new answer.new }
 {
     if state.len() < STATE_LENGTH {
-        return STATE_TOO_SHORT;
+        return ShortBuffer::State as u8;
     }
     if answer.len() < ANSWER_LENGTH {
-        return ANSWER_TOO_SHORT;
+        return ShortBuffer::Answer as u8;
     }
     if !is_state(state) {
-        put_answer(answer, Answer::Refused { number: 1 });
-        return 1;
+        let number = Refusal::NotSound.number();
+        put_answer(answer, Answer::Refused { number });
+        return number;
     }
     let outcome = call_bytes(line_in(state), book, kind, body);
     store(outcome, state, answer)
@@ -82,7 +64,7 @@ pub fn put_unopened(state: &mut [u8]) -> u8
     ensures { (result ≡ unopened_status state.old) × (state.new ≡ unopened_to state.old) }
 {
     if state.len() < STATE_LENGTH {
-        return STATE_TOO_SHORT;
+        return ShortBuffer::State as u8;
     }
     put_state(state, Line::unopened());
     0

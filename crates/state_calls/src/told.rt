@@ -1,85 +1,68 @@
 // What is told of a line in state bytes, as numbers.
-ghost use Rattle.std.specs.Prelude.{◌≡◌, ◌≤◌, get_or, length};
+ghost use Rattle.std.specs.Prelude.{◌≡◌, ◌≤◌, length};
 ghost use Rattle.state_bytes.specs.StateBytes.{line_in, state_length};
-ghost use Rattle.state_calls.specs.Told.{lane_told, line_numbers, nothing, number_told, position_told, sound_in};
+ghost use Rattle.state_calls.specs.Told.{lane_if_any, number_by, number_if_any, position_if_any, sound_in};
 
 use decode_fields::{number16, number32, number64};
 use limits::MOST_LANES;
 use state_bytes::{head, is_state, line_in};
 use view::Place;
 
-// Told where there is nothing to tell: the greatest number.
-pub const NOTHING: u64 = 18446744073709551615;
-
 // Whether the bytes are a line that is sound with a book of this length.
 pub fn is_sound(state: &[u8], book: usize) -> bool
     ensures { result ≡ sound_in state.now book }
 {
-    if !is_state(state) {
-        return false;
-    }
-    soundness::is_sound(line_in(state), book)
+    is_state(state) && soundness::is_sound(line_in(state), book)
 }
 
-// What a lane is doing: its entry as one number.
-pub fn lane(state: &[u8], lane: u8) -> u64
-    ensures { result ≡ lane_told state.now lane }
+// What a lane is doing: its entry as one number; none where the bytes are no line, or it has no such lane.
+pub fn lane(state: &[u8], lane: u8) -> Option<u64>
+    ensures { result ≡ lane_if_any state.now lane }
 {
     if !is_state(state) {
-        return NOTHING;
+        return None;
     }
-    if state[8] <= lane {
-        return NOTHING;
+    let i = usize::from(lane);
+    if state[8] <= lane || MOST_LANES <= i {
+        return None;
     }
-    let i = lane as usize;
-    if MOST_LANES <= i {
-        return NOTHING;
-    }
-    number64(state, 64 + 8 * i)
-}
-
-// A byte as a number of 64 bits; its contract spares its callers to show that the byte fits.
-fn wide(x: u8) -> u64
-    ensures { result ≡ x }
-{
-    x as u64
+    Some(number64(state, 64 + 8 * i))
 }
 
 // A number of the line whose state the bytes are, by its index.
-fn number_of(state: &[u8], index: u8) -> u64
+fn number_of(state: &[u8], index: u8) -> Option<u64>
     requires { state_length ≤ length state.now }
-    ensures { result ≡ get_or (line_numbers (line_in state.now)) index nothing }
+    ensures { result ≡ number_by (line_in state.now) index }
 {
     match index {
-        0 => wide(state[8]),
-        1 => number32(state, 9) as u64,
-        2 => number32(state, 13) as u64,
-        3 => number32(state, 17) as u64,
-        4 => number32(state, 21) as u64,
-        5 => number16(state, 25) as u64,
-        6 => wide(state[27]),
-        _ => NOTHING,
+        0 => Some(u64::from(state[8])),
+        1 => Some(u64::from(number32(state, 9))),
+        2 => Some(u64::from(number32(state, 13))),
+        3 => Some(u64::from(number32(state, 17))),
+        4 => Some(u64::from(number32(state, 21))),
+        5 => Some(u64::from(number16(state, 25))),
+        6 => Some(u64::from(state[27])),
+        _ => None,
     }
 }
 
-// A number of the line, by its index.
-pub fn number(state: &[u8], index: u8) -> u64
-    ensures { result ≡ number_told state.now index }
+// A number of the line, by its index; none where the bytes are no line, or it has no such number.
+pub fn number(state: &[u8], index: u8) -> Option<u64>
+    ensures { result ≡ number_if_any state.now index }
 {
     if !is_state(state) {
-        return NOTHING;
+        return None;
     }
     number_of(state, index)
 }
 
-// The position of a place in the line's view.
-pub fn position(state: &[u8], place: u32) -> u64
-    ensures { result ≡ position_told state.now place }
+// The position of a place in the line's view; none where the bytes are no line.
+pub fn position(state: &[u8], place: u32) -> Option<u64>
+    ensures { result ≡ position_if_any state.now place }
 {
     if !is_state(state) {
-        return NOTHING;
+        return None;
     }
     let view = head::view_in(state);
-    let found = view.position(Place(place));
-    found.0
+    Some(view.position(Place(place)).0)
 }

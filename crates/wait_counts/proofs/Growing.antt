@@ -12,7 +12,7 @@ use Rattle.lists.proofs.Tests.{by_test}
 use Rattle.report.specs.Lent.{full_number}
 use Rattle.report.specs.Rows.{empty_row}
 use Rattle.report.specs.declared.Report.{Report}
-use Rattle.wait_counts.specs.Counts.{Below, Growable, Consistent, closed_row, grown_to, mark_in, releases_in, with_waits}
+use Rattle.wait_counts.specs.Counts.{Below, Growable, Joinable, Consistent, closed_row, grown_to, mark_in, releases_in, with_waits}
 
 -- a lane's waits in one run are few
 pub closed_below : (c : List ℕ) (i : ℕ) → Consistent c → releases_in c ≤ most_sheet → i < most_lanes → Below (most_sheet + 1) (closed_row c i)
@@ -71,3 +71,10 @@ module _ (r : Report) (c : List ℕ) where
   all_below G g k e h =
       let b = grown_all G k (omega arith) in
       rw e (record { times = omega (arith, b.times); sum = omega (arith, b.sum); largest = omega (arith, b.largest); unended = omega (arith, b.unended) })
+
+  -- so each of their numbers has room for them
+  pub joins_lane : Growable r c → (g : Report) (k : ℕ) → g ≡ grown_to k r c → k < most_lanes → Joinable (get_or g.lane k empty_row) c k
+  joins_lane G g k e h = record { below = lane_below G g k e h; consistent = G.consistent; few = G.few; inside = h }
+
+  pub joins_all : Growable r c → (g : Report) (k : ℕ) → g ≡ grown_to k r c → k < most_lanes → Joinable g.all c k
+  joins_all G g k e h = record { below = all_below G g k e h; consistent = G.consistent; few = G.few; inside = h }

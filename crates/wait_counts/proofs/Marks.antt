@@ -1,4 +1,5 @@
 -- A call from a sound line: what its entry shows of its answer, that no lane is told to wait while it is marked, and that a lane that does not wait has no mark.
+use Rattle.std.specs.Prelude.{Option, Some, None}
 use Prim.Native.Nat.{ℕ, ◌+◌, ◌*◌, ◌≤◌, ◌<◌}
 use mathlib.Core.Path.{◌≡◌, refl, sym, ap, ◌∙◌}
 use mathlib.Core.Logic.{◌≢◌}
@@ -18,7 +19,6 @@ use Rattle.line.specs.declared.Purpose.{Purpose}
 use Rattle.line.specs.declared.Phase.{Phase}
 use Rattle.line.specs.Line.{idle_lane, is_idle_or_gathered, is_waiting, on, phase_at}
 use Rattle.waitlist.specs.NextLane.{next_lane}
-use Rattle.waitlist.specs.declared.Wakes.{Wakes}
 use Rattle.event.specs.Event.{given}
 use Rattle.event.specs.declared.Event.{Event}
 use Rattle.steps.specs.Answer.{said_by}
@@ -91,14 +91,14 @@ module _ (x : State) (G : GoodState x) (c : List ℕ) (S : Consistent c) (M : Ma
       → a.after.line ≡ released next_lane (lowered x.line k y q) k → is_waiting o ≡ false → Leaving x.line k o y q → Next c e a
   leaves_marked e a k o y q shows sign al ow L = go (next_of next_lane (lowered x.line k y q) k) refl
     where
-      go : (m : Wakes) → next_of next_lane (lowered x.line k y q) k ≡ m → Next c e a
-      go Wakes.None t =
+      go : (m : Option ℕ) → next_of next_lane (lowered x.line k y q) k ≡ m → Next c e a
+      go None t =
           record {
             shows = rw sign shows;
             proper = rw (sign ∙ ap releases t) tt;
             marked = rw (sign ∙ ap releases t) (λ j b h. release_slot c S (4 * j) (omega arith) ∙ moved k o y L.was ow j b (rw (al ∙ ap (wake (lowered x.line k y q)) t) at h));
           }
-      go (Wakes.Lane w) t =
+      go (Some w) t =
           record {
             shows = rw sign shows;
             proper = rw (sign ∙ ap releases t) below;
@@ -170,15 +170,15 @@ pub record Goes (c : List ℕ) (e : Entry) (r : Result) : Type 0 where
 
 counted_consistent : (c : List ℕ) (i : ℕ) (s : Sign) → Consistent c → Proper c i s → Consistent (counted_by c i s)
 counted_consistent c i waits S P = told_consistent c S i P.0
-counted_consistent c i (releases Wakes.None) S P = release_consistent c S
-counted_consistent c i (releases (Wakes.Lane w)) S P =
+counted_consistent c i (releases None) S P = release_consistent c S
+counted_consistent c i (releases (Some w)) S P =
     rw (← entry_is w P) (ended_consistent (one_release c) (release_consistent c S) w P (rw (release_slot c S (4 * w) (omega arith), release_count c S) (S.mark w P)))
 counted_consistent c i neither S P = S
 
 counted_releases : (c : List ℕ) (i : ℕ) (s : Sign) → Consistent c → Proper c i s → releases_in (counted_by c i s) ≤ releases_in c + 1
 counted_releases c i waits S P = rw (told_slot c S i P.0 releases_at (λ q. absurd (omega arith))) (omega arith)
-counted_releases c i (releases Wakes.None) S P = rw (release_count c S) (omega arith)
-counted_releases c i (releases (Wakes.Lane w)) S P =
+counted_releases c i (releases None) S P = rw (release_count c S) (omega arith)
+counted_releases c i (releases (Some w)) S P =
     rw (← entry_is w P)
     (by_test (eqb (mark_in (one_release c) w) 0) (λ t. rw (t, release_count c S) (omega arith))
     (λ t. rw (t, ended_releases (one_release c) (release_consistent c S) w _ P, release_count c S) (omega arith)))

@@ -1,4 +1,5 @@
 -- What is counted of a lane so far, what its wait under way comes to, and what it is told later, are together the same before and after a call.
+use Rattle.std.specs.Prelude.{Some, None}
 use Prim.Native.Nat.{ℕ, ◌+◌, ◌-◌, ◌*◌, ◌<◌, max}
 use mathlib.Core.Path.{◌≡◌, refl, sym, ap, ◌∙◌}
 use mathlib.Core.Logic.{◌≢◌}
@@ -14,7 +15,6 @@ use Rattle.limits.specs.Limits.{most_lanes}
 use Rattle.lists.specs.Lists.{some_pass}
 use Rattle.lists.proofs.Tests.{by_test}
 use Rattle.waitlist.specs.NextLane.{wakes_values}
-use Rattle.waitlist.specs.declared.Wakes.{Wakes}
 use Rattle.trace.specs.Trace.{Entry, is_release, tells_to_wait, wakes, woken_by}
 use Rattle.changes.proofs.Steps.{entry_is}
 use Rattle.report.specs.Growth.{ended_row, lane_waits, releases_to_wake, wait_row, waits_told}
@@ -49,8 +49,8 @@ pub record Shows (e : Entry) (s : Sign) : Type 0 where
 -- a lane that is told to wait is not marked, and each lane is one that a line can have
 abbrev pub Proper : List ℕ → ℕ → Sign → Type 0
 Proper c i waits = (i < most_lanes) × (mark_in c i ≡ 0)
-Proper c i (releases (Wakes.Lane w)) = w < most_lanes
-Proper c i (releases Wakes.None) = Unit {0}
+Proper c i (releases (Some w)) = w < most_lanes
+Proper c i (releases None) = Unit {0}
 Proper c i neither = Unit {0}
 
 -- ---- at the start nothing is counted, and at the end nothing is left
@@ -206,8 +206,8 @@ pub total_step : (c : List ℕ) → Consistent c → (i : ℕ) → i < most_lane
     → lane_total c i (e ∷ later) ≡ lane_total (counted_by c e.lane s) i later
 total_step c S i h e later waits W P = tells_total c S i h e later W P
 total_step c S i h e later neither W P = total_is refl (passes c S i h e later W.release (woken_none e i W.woken)) (untold c S i h e later (W.tells i))
-total_step c S i h e later (releases Wakes.None) W P = onward_total c S i h e later W.release (woken_none e i W.woken) (W.tells i)
-total_step c S i h e later (releases (Wakes.Lane w)) W P =
+total_step c S i h e later (releases None) W P = onward_total c S i h e later W.release (woken_none e i W.woken) (W.tells i)
+total_step c S i h e later (releases (Some w)) W P =
     rw (← entry_is w P)
     (by_test (eqb (mark_in (one_release c) w) 0)
     (λ t. rw t (elim (ℕ_discrete i w) [

@@ -1,7 +1,6 @@
 -- What a run counts of waiting: a list of numbers, four for each lane and then the releases. Tied to `lane_waits` and `grown` by wait_counts/Totals: total_step, and wait_counts/Reports: report_is.
-use Rattle.std.specs.Prelude.{ℕ, zero, suc, ◌+◌, ◌-◌, ◌*◌, ◌≤◌, ◌<◌, max, cond, List, ◌≡◌, eqb, get_or, length, replicate, set}
+use Rattle.std.specs.Prelude.{Option, Some, None, ℕ, zero, suc, ◌+◌, ◌-◌, ◌*◌, ◌≤◌, ◌<◌, max, cond, List, ◌≡◌, eqb, get_or, length, replicate, set}
 use Rattle.limits.specs.Limits.{most_lanes, most_sheet}
-use Rattle.waitlist.specs.declared.Wakes.{Wakes}
 use Rattle.steps.specs.declared.Answer.{Answer}
 use Rattle.changes.specs.Change.{entry_of}
 use Rattle.report.specs.Rows.{empty_row, joined, row}
@@ -48,14 +47,14 @@ ended c i = cond (eqb (mark_in c i) 0) c (ended_after c i (releases_in c + 1 - m
 abbrev pub one_release : List ℕ → List ℕ
 one_release c = set c releases_at (releases_in c + 1)
 
-abbrev pub released : List ℕ → Wakes → List ℕ
-released c (Wakes.Lane w) = ended (one_release c) (entry_of w)
-released c Wakes.None = one_release c
+abbrev pub released : List ℕ → Option ℕ → List ℕ
+released c (Some w) = ended (one_release c) (entry_of w)
+released c None = one_release c
 
 -- what an answer means for waiting: its lane is told to wait, it is an accepted release, with the lane that it wakes, or neither
 pub data Sign : Type 0 where
   waits : Sign
-  releases : Wakes → Sign
+  releases : Option ℕ → Sign
   neither : Sign
 
 abbrev pub sign_of : Answer → Sign

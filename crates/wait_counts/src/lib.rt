@@ -1,7 +1,7 @@
 // What a run counts of waiting, in lent numbers: an answer counted, and at the run's end all counts joined to a report.
 #![tactic(auto)]
 
-ghost use Rattle.std.specs.Prelude.{◌+◌, ◌≤◌, ◌<◌, max, cond, ◌≡◌, eqb};
+ghost use Rattle.std.specs.Prelude.{◌+◌, ◌≤◌, ◌<◌, ◌≡◌};
 ghost use Rattle.limits.specs.Limits.{most_lanes, most_sheet};
 ghost use Rattle.report.specs.Rows.{joined};
 ghost use Rattle.wait_counts.specs.Counts.{Countable, Growable, Joinable, Consistent, closed_row, counted, ended, grown_to, released, releases_in, told};
@@ -10,23 +10,12 @@ use changes::entry_of;
 use limits::MOST_LANES;
 use report::{Report, Row};
 use steps::Answer;
-use waitlist::Wakes;
 
 // Four numbers for each lane, and then the releases.
 pub const COUNTS: usize = 4 * MOST_LANES + 1;
 
 // Where the number of releases stands.
 const RELEASES: usize = 4 * MOST_LANES;
-
-// The greater of two numbers.
-fn greater(a: u64, b: u64) -> u64
-    ensures { result ≡ max a b }
-{
-    if a < b {
-        return b;
-    }
-    a
-}
 
 // A lane is told to wait: its mark is one more than the releases before.
 fn tell(counts: &mut [u64], lane: usize)
@@ -53,16 +42,16 @@ fn end_wait(counts: &mut [u64], lane: usize)
     counts[at] = 0;
     counts[at + 1] = times + 1;
     counts[at + 2] = sum + releases;
-    counts[at + 3] = greater(largest, releases);
+    counts[at + 3] = largest.max(releases);
 }
 
 // An accepted release, with the lane that it wakes.
-fn release(counts: &mut [u64], wakes: Wakes)
+fn release(counts: &mut [u64], wakes: Option<u8>)
     requires { Countable counts.old }
     ensures { counts.new ≡ released counts.old wakes }
 {
-    counts[RELEASES] = counts[RELEASES] + 1;
-    if let Wakes::Lane(woken) = wakes {
+    counts[RELEASES] += 1;
+    if let Some(woken) = wakes {
         end_wait(counts, entry_of(woken));
     }
 }
@@ -74,24 +63,9 @@ pub fn count_answer(counts: &mut [u64], lane: usize, answer: Answer)
 {
     match answer {
         Answer::Waits => tell(counts, lane),
-        Answer::Region {
-            start: _,
-            count: _,
-            wakes,
-        } => release(counts, wakes),
-        Answer::Freed { wakes } => release(counts, wakes),
+        Answer::Region { wakes, .. } | Answer::Freed { wakes } => release(counts, wakes),
         _ => {}
     }
-}
-
-// 1 for a lane that is marked, 0 for another.
-fn one_marked(mark: u64) -> u64
-    ensures { (result ≡ cond (eqb mark 0) 0 1) × (result ≤ 1) }
-{
-    if mark == 0 {
-        return 0;
-    }
-    1
 }
 
 // A row with the waits of a lane joined to it.
@@ -100,26 +74,24 @@ fn join_waits(row: Row, counts: &[u64], lane: usize) -> Row
     ensures { result ≡ joined row (closed_row counts.now lane) }
 {
     let at = 4 * lane;
-    let unended = one_marked(counts[at]);
     Row {
         times: row.times + counts[at + 1],
         sum: row.sum + counts[at + 2],
-        largest: greater(row.largest, counts[at + 3]),
-        unended: row.unended + unended,
+        largest: row.largest.max(counts[at + 3]),
+        unended: row.unended + u64::from(counts[at] != 0),
     }
 }
 
 // A report with all that a run has counted joined to it, when the run has ended.
+#[tactic(auto, using(crate::proofs::Growing::grown_none, crate::proofs::Growing::grown_more, crate::proofs::Growing::joins_lane))]
 pub fn grow(report: Report, counts: &[u64]) -> Report
     requires { Growable report counts.now }
     ensures { result ≡ grown_to most_lanes report counts.now }
 {
     let mut grown = report;
     for i in 0..MOST_LANES {
-        let row = grown.lane[i];
-        grown.lane[i] = join_waits(row, counts, i);
-        let all = grown.all;
-        grown.all = join_waits(all, counts, i);
+        grown.lane[i] = join_waits(grown.lane[i], counts, i);
+        grown.all = join_waits(grown.all, counts, i);
     }
     grown
 }
