@@ -1,4 +1,5 @@
 -- How long a line is at most, by the types of the numbers in it.
+use Rattle.std.specs.Prelude.{Some, None}
 use Prim.Native.Nat.{ℕ, ◌≤◌, ◌<◌}
 use mathlib.Core.Path.{◌≡◌, refl}
 use mathlib.Core.List.{[], ◌∷◌}
@@ -9,13 +10,10 @@ use denote.Laws.{Is}
 use denote.Enum.Declared.{row}
 use denote.Enum.Laws.{owed}
 use Rattle.view.specs.declared.Place.{Place}
-use Rattle.waitlist.specs.declared.Wakes.{Wakes}
-use Rattle.waitlist.specs.contracts.Wakes as wakes
-use Rattle.waitlist.proofs.Wakes.TheLaws as wakes-laws
 use Rattle.steps.specs.declared.Answer.{Answer}
 use Rattle.steps.specs.contracts.Answer as answer
 use Rattle.steps.proofs.Answer.TheLaws as answer-laws
-use Rattle.printout.specs.Print.{answer_line, answer_words, decimal, decimal_in, end_line_of, hex_in, wakes_words, words}
+use Rattle.printout.specs.Print.{answer_line, answer_words, decimal, decimal_in, end_line_of, hex_in, words}
 use Rattle.printout.specs.Text.{ascii}
 use Rattle.number_text.proofs.Decimal.{few_digits}
 use Rattle.number_text.proofs.Hex.{hex_length}
@@ -37,13 +35,6 @@ digits_64 : (n : ℕ) → n < 18446744073709551616 → length (decimal n) ≤ 20
 digits_64 n h = few_digits 19 n (omega arith)
 
 -- ---- the line after an event's number; what a function's proof has of a parameter is `Is`, in `good`
-wakes_short : (x : Wakes) (v : Val) → Is (row wakes.the_type) x (v ∷ []) → length (words (wakes_words x)) ≤ 11
-unfolding words
-wakes_short (Wakes.Lane i) v g =
-    let f = owed wakes.the_type wakes-laws.the_laws (Wakes.Lane i) (v ∷ []) g in
-    omega (arith, one_length (ascii "wakes") (decimal i), digits_8 i (search f))
-wakes_short Wakes.None v g = omega arith
-
 pub values_short : (a : Answer) (v : Val) → Is (row answer.the_type) a (v ∷ []) → length (words (answer_words a)) ≤ most_values
 unfolding answer_words words
 values_short (Answer.Open lanes capacity) v g =
@@ -53,23 +44,28 @@ values_short (Answer.Holds pointer) v g =
     let f = owed answer.the_type answer-laws.the_laws (Answer.Holds pointer) (v ∷ []) g in
     omega (arith, one_length (ascii "holds") (decimal pointer.0), digits_32 pointer.0 (search f))
 values_short Answer.Waits v g = omega arith
-values_short (Answer.Region start count x) v g =
-    let f = owed answer.the_type answer-laws.the_laws (Answer.Region start count x) (v ∷ []) g in
+values_short (Answer.Region start count (Some i)) v g =
+    let f = owed answer.the_type answer-laws.the_laws (Answer.Region start count (Some i)) (v ∷ []) g in
     omega (
       arith,
-      region_length (decimal start.0) (decimal count) x,
+      region_length (decimal start.0) (decimal count) (Some i),
+      one_length (ascii "wakes") (decimal i),
       digits_32 start.0 (search f),
       digits_16 count (search f),
-      wakes_short x _ f.1.1.0,
+      digits_8 i (search f),
     )
+values_short (Answer.Region start count None) v g =
+    let f = owed answer.the_type answer-laws.the_laws (Answer.Region start count None) (v ∷ []) g in
+    omega (arith, region_length (decimal start.0) (decimal count) None, digits_32 start.0 (search f), digits_16 count (search f))
 values_short (Answer.Wrote position) v g =
     let f = owed answer.the_type answer-laws.the_laws (Answer.Wrote position) (v ∷ []) g in
     omega (arith, one_length (ascii "wrote") (decimal position.0), digits_64 position.0 (search f))
 values_short (Answer.Record content) v g = omega (arith, one_length (ascii "record") (hex_in 16 content), hex_length 16 content)
 values_short Answer.None v g = omega arith
-values_short (Answer.Freed x) v g =
-    let f = owed answer.the_type answer-laws.the_laws (Answer.Freed x) (v ∷ []) g in
-    omega (arith, wakes_length (ascii "freed") x, wakes_short x _ f.0)
+values_short (Answer.Freed (Some i)) v g =
+    let f = owed answer.the_type answer-laws.the_laws (Answer.Freed (Some i)) (v ∷ []) g in
+    omega (arith, wakes_length (ascii "freed") (Some i), one_length (ascii "wakes") (decimal i), digits_8 i (search f))
+values_short (Answer.Freed None) v g = omega arith
 values_short Answer.Gathered v g = omega arith
 values_short (Answer.Ordered before total) v g =
     let f = owed answer.the_type answer-laws.the_laws (Answer.Ordered before total) (v ∷ []) g in
@@ -100,6 +96,6 @@ end_short size pointer s p =
     omega (arith, two_length (ascii "end") (decimal size) (decimal pointer.0), digits_32 size s, digits_32 pointer.0 p)
 
 -- no shorter buffer takes every line
-pub longest : length (answer_line 18446744073709551615 (Answer.Region (record { 0 = 4294967295 }) 65535 Wakes.None)) ≡ most_line
+pub longest : length (answer_line 18446744073709551615 (Answer.Region (record { 0 = 4294967295 }) 65535 None)) ≡ most_line
 unfolding answer_words decimal_in words
 longest = refl

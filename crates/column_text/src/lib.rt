@@ -7,14 +7,11 @@ ghost use Rattle.number_text.specs.Stored.{Stored};
 use word_text::BLANK;
 
 // Blanks from an index to another; the index after them.
+#[tactic(auto, using(number_text::proofs::Stores::part_stored))]
 pub fn put_blanks(out: &mut [u8], from: usize, to: usize) -> usize
     requires { (from ≤ to) × (to ≤ length out.old) }
     ensures { Stored (replicate (to - from) 32) out.old from out.new result }
 {
-    let mut i = from;
-    while i < to {
-        out[i] = BLANK;
-        i += 1;
-    }
-    i
+    out[from..to].fill(BLANK);
+    to
 }

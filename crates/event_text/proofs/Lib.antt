@@ -1,4 +1,3 @@
 -- The laws of sheets in words.
 pub mod Reasons
 pub mod Shown
-pub mod Groups

@@ -4,7 +4,6 @@ use Rattle.view.specs.View.{block}
 use Rattle.view.specs.declared.Block.{Block}
 use Rattle.event.specs.Kinds.{Field, Form, block_length, block_start, in_hex, kind_at, plain, with_sign}
 use Rattle.event.specs.Event.{block_list, fields_of, kind_of}
-use Rattle.event.specs.declared.Blocks.{Blocks}
 use Rattle.event.specs.declared.Event.{Event}
 use Rattle.number_text.specs.Stored.{Stored}
 use Rattle.printout.specs.Text.{ascii}
@@ -31,7 +30,7 @@ signed_text n = cond (ltb n 2147483648) (decimal n) (ascii "-" ++ decimal (42949
 abbrev pub block_text : Block → List ℕ
 block_text b = ascii "(" ++ ((decimal b.start ++ ascii ",") ++ (ascii " " ++ (decimal b.length ++ ascii ")")))
 
-abbrev pub block_words : Blocks → List (List ℕ)
+abbrev pub block_words : List Block → List (List ℕ)
 block_words b = map block_text (block_list b)
 
 -- ---- an event in words, by the table of kinds

@@ -2,14 +2,15 @@
 #![tactic(auto)]
 
 ghost use Rattle.std.specs.Prelude.{◌+◌, ◌≤◌, ◌<◌, ◌≡◌, [], ◌∷◌, ◌++◌, length};
-ghost use Rattle.event.specs.Event.{fields_of};
 ghost use Rattle.printout.specs.Text.{ascii};
 ghost use Rattle.printout.specs.Print.{decimal, hex_in, words};
 ghost use Rattle.number_text.specs.Stored.{Stored};
 ghost use Rattle.event_text.specs.Reasons.{reason_text};
 ghost use Rattle.event_text.specs.Show.{StoredTwo, block_text, block_words, event_line, event_words, most_event_line, most_words, refusal_line, signed_text};
 
-use event::{Blocks, Event};
+use encode_fields::unsigned_of;
+use event::Event;
+use limits::MOST_BLOCKS;
 use view::Block;
 use word_text::{BLANK, LINE_END, put_number, put_record, put_word};
 
@@ -42,6 +43,7 @@ fn mark(out: &mut [u8], at: usize, byte: u8) -> usize
 }
 
 // A record in hexadecimal, to the line's end.
+#[tactic(auto, using(crate::proofs::Shown::record_length))]
 fn recorded(out: &mut [u8], at: usize, content: u64) -> usize
     requires { at + 24 ≤ length out.old }
     ensures { Stored (words (ascii "record" ∷ hex_in 16 content ∷ [])) out.old at out.new result × (result ≤ at + 24) }
@@ -63,7 +65,7 @@ fn put_fields(out: &mut [u8], at: usize, first: &[u8], a: u8, second: &[u8], b: 
     requires { at + length first.now + length second.now + 44 ≤ length out.old }
     ensures { Stored (words (first.now ∷ decimal a ∷ second.now ∷ decimal b ∷ [])) out.old at out.new result × (result ≤ at + length first.now + length second.now + 44) }
 {
-    let next = named(out, at, first, a as u64, BLANK);
+    let next = named(out, at, first, u64::from(a), BLANK);
     named(out, next, second, b, LINE_END)
 }
 
@@ -72,7 +74,7 @@ fn put_write(out: &mut [u8], at: usize, lane: u8, content: u64) -> usize
     requires { at + most_words ≤ length out.old }
     ensures { Stored (words (ascii "write   lane" ∷ decimal lane ∷ ascii "record" ∷ hex_in 16 content ∷ [])) out.old at out.new result × (result ≤ at + most_words) }
 {
-    let next = named(out, at, b"write   lane", lane as u64, BLANK);
+    let next = named(out, at, b"write   lane", u64::from(lane), BLANK);
     recorded(out, next, content)
 }
 
@@ -81,8 +83,8 @@ fn put_put(out: &mut [u8], at: usize, lane: u8, place: u32, content: u64) -> usi
     requires { at + most_words ≤ length out.old }
     ensures { Stored (words (ascii "put     lane" ∷ decimal lane ∷ ascii "place" ∷ decimal place ∷ ascii "record" ∷ hex_in 16 content ∷ [])) out.old at out.new result × (result ≤ at + most_words) }
 {
-    let next = named(out, at, b"put     lane", lane as u64, BLANK);
-    let then = named(out, next, b"place", place as u64, BLANK);
+    let next = named(out, at, b"put     lane", u64::from(lane), BLANK);
+    let then = named(out, next, b"place", u64::from(place), BLANK);
     recorded(out, then, content)
 }
 
@@ -101,8 +103,8 @@ fn put_block(out: &mut [u8], at: usize, block: Block, after: u8) -> usize
     ensures { Stored (block_text block ++ after ∷ []) out.old at out.new result × (result ≤ at + 46) }
 {
     let to1 = mark(out, at, b'(');
-    let to2 = put_marked(out, to1, block.start as u64, b',');
-    let to3 = number(out, to2, block.length as u64, b')');
+    let to2 = put_marked(out, to1, u64::from(block.start), b',');
+    let to3 = number(out, to2, u64::from(block.length), b')');
     mark(out, to3, after)
 }
 
@@ -116,14 +118,14 @@ fn put_two_blocks(out: &mut [u8], at: usize, a: Block, b: Block, after: u8) -> u
 }
 
 // The eight blocks of a view, to the line's end.
-fn put_blocks(out: &mut [u8], at: usize, blocks: Blocks) -> usize
+fn put_blocks(out: &mut [u8], at: usize, blocks: [Block; MOST_BLOCKS]) -> usize
     requires { at + 368 ≤ length out.old }
     ensures { Stored (words (block_words blocks)) out.old at out.new result × (result ≤ at + 368) }
 {
-    let to1 = put_two_blocks(out, at, blocks.b0, blocks.b1, BLANK);
-    let to2 = put_two_blocks(out, to1, blocks.b2, blocks.b3, BLANK);
-    let to3 = put_two_blocks(out, to2, blocks.b4, blocks.b5, BLANK);
-    put_two_blocks(out, to3, blocks.b6, blocks.b7, LINE_END)
+    let to1 = put_two_blocks(out, at, blocks[0], blocks[1], BLANK);
+    let to2 = put_two_blocks(out, to1, blocks[2], blocks[3], BLANK);
+    let to3 = put_two_blocks(out, to2, blocks[4], blocks[5], BLANK);
+    put_two_blocks(out, to3, blocks[6], blocks[7], LINE_END)
 }
 
 // 0B view.
@@ -133,27 +135,35 @@ fn put_view(
     displacement: u32,
     extent: u16,
     used: u8,
-    blocks: Blocks,
+    blocks: [Block; MOST_BLOCKS],
 ) -> usize
     requires { at + most_words ≤ length out.old }
     ensures { Stored (words (ascii "view    displacement" ∷ decimal displacement ∷ ascii "extent" ∷ decimal extent ∷ ascii "blocks" ∷ decimal used ∷ block_words blocks)) out.old at out.new result × (result ≤ at + most_words) }
 {
-    let to1 = named(out, at, b"view    displacement", displacement as u64, BLANK);
-    let to2 = named(out, to1, b"extent", extent as u64, BLANK);
-    let to3 = named(out, to2, b"blocks", used as u64, BLANK);
+    let to1 = named(
+        out,
+        at,
+        b"view    displacement",
+        u64::from(displacement),
+        BLANK,
+    );
+    let to2 = named(out, to1, b"extent", u64::from(extent), BLANK);
+    let to3 = named(out, to2, b"blocks", u64::from(used), BLANK);
     put_blocks(out, to3, blocks)
 }
 
 // A number of two's complement, with its sign, and the byte after it.
+#[tactic(auto, using(number_text::proofs::Stores::and_then))]
 fn put_signed(out: &mut [u8], at: usize, n: u32, after: u8) -> usize
     requires { at + 22 ≤ length out.old }
     ensures { Stored (signed_text n ++ after ∷ []) out.old at out.new result × (result ≤ at + 22) }
 {
     if n < 2147483648 {
-        return number(out, at, n as u64, after);
+        number(out, at, u64::from(n), after)
+    } else {
+        let next = mark(out, at, b'-');
+        number(out, next, 4294967296 - u64::from(n), after)
     }
-    let next = mark(out, at, b'-');
-    number(out, next, 4294967296 - n as u64, after)
 }
 
 // 0C seek: a whence and a signed offset.
@@ -161,27 +171,14 @@ fn put_seek(out: &mut [u8], at: usize, whence: u8, offset: u32) -> usize
     requires { at + most_words ≤ length out.old }
     ensures { Stored (words (ascii "seek    whence" ∷ decimal whence ∷ ascii "offset" ∷ signed_text offset ∷ [])) out.old at out.new result × (result ≤ at + most_words) }
 {
-    let next = named(out, at, b"seek    whence", whence as u64, BLANK);
+    let next = named(out, at, b"seek    whence", u64::from(whence), BLANK);
     let then = word(out, next, b"offset", BLANK);
     put_signed(out, then, offset, LINE_END)
 }
 
-// An event with a lane alone, or one of an unlisted kind.
-fn put_short(out: &mut [u8], at: usize, event: Event) -> usize
-    requires { (at + most_words ≤ length out.old) × (length (fields_of event) ≤ 1) }
-    ensures { Stored (words (event_words event)) out.old at out.new result × (result ≤ at + most_words) }
-{
-    match event {
-        Event::Receive { lane } => named(out, at, b"receive lane", lane as u64, LINE_END),
-        Event::Read { lane } => named(out, at, b"read    lane", lane as u64, LINE_END),
-        Event::Free { lane } => named(out, at, b"free    lane", lane as u64, LINE_END),
-        _ => word(out, at, b"unlisted", LINE_END),
-    }
-}
-
-// An event of at most two fields.
-fn put_pair(out: &mut [u8], at: usize, event: Event) -> usize
-    requires { (at + most_words ≤ length out.old) × (length (fields_of event) ≤ 2) }
+// An event's line from its kind's word on.
+pub fn put_event(out: &mut [u8], at: usize, event: Event) -> usize
+    requires { at + most_words ≤ length out.old }
     ensures { Stored (words (event_words event)) out.old at out.new result × (result ≤ at + most_words) }
 {
     match event {
@@ -192,50 +189,45 @@ fn put_pair(out: &mut [u8], at: usize, event: Event) -> usize
                 b"open    lanes",
                 lanes,
                 b"capacity",
-                capacity as u64,
+                u64::from(capacity),
             )
         }
         Event::Want { lane, purpose } => {
-            put_fields(out, at, b"want    lane", lane, b"purpose", purpose as u64)
+            put_fields(
+                out,
+                at,
+                b"want    lane",
+                lane,
+                b"purpose",
+                u64::from(purpose),
+            )
         }
+        Event::Receive { lane } => named(out, at, b"receive lane", u64::from(lane), LINE_END),
         Event::Take { lane, count } => {
-            put_fields(out, at, b"take    lane", lane, b"count", count as u64)
+            put_fields(out, at, b"take    lane", lane, b"count", u64::from(count))
         }
         Event::Write { lane, content } => put_write(out, at, lane, content),
-        Event::Look { lane, place } => {
-            put_fields(out, at, b"look    lane", lane, b"place", place.0 as u64)
-        }
-        Event::Enter { lane, count } => {
-            put_fields(out, at, b"enter   lane", lane, b"count", count as u64)
-        }
-        Event::Seek { whence, offset } => put_seek(
-            out,
-            at,
-            whence,
-            encode_fields::unsigned_of(offset),
-        ),
-        _ => put_short(out, at, event),
-    }
-}
-
-// An event's line from its kind's word on.
-pub fn put_event(out: &mut [u8], at: usize, event: Event) -> usize
-    requires { at + most_words ≤ length out.old }
-    ensures { Stored (words (event_words event)) out.old at out.new result × (result ≤ at + most_words) }
-{
-    match event {
+        Event::Read { lane } => named(out, at, b"read    lane", u64::from(lane), LINE_END),
         Event::Put {
             lane,
             place,
             content,
         } => put_put(out, at, lane, place.0, content),
+        Event::Look { lane, place } => {
+            put_fields(out, at, b"look    lane", lane, b"place", u64::from(place.0))
+        }
+        Event::Free { lane } => named(out, at, b"free    lane", u64::from(lane), LINE_END),
+        Event::Enter { lane, count } => {
+            put_fields(out, at, b"enter   lane", lane, b"count", u64::from(count))
+        }
         Event::View {
             displacement,
             extent,
             used,
             blocks,
         } => put_view(out, at, displacement, extent, used, blocks),
-        _ => put_pair(out, at, event),
+        Event::Seek { whence, offset } => put_seek(out, at, whence, unsigned_of(offset)),
+        Event::Unlisted => word(out, at, b"unlisted", LINE_END),
     }
 }
 
@@ -249,6 +241,7 @@ pub fn show_event(out: &mut [u8], count: u64, event: Event) -> usize
 }
 
 // The reason of a refusal, and the line end; of a number that is no reason's the line end alone.
+#[tactic(auto, using(crate::proofs::Reasons::no_reason), unfolding(printout::specs::Print::words))]
 pub fn put_reason(out: &mut [u8], at: usize, refusal: u8) -> usize
     requires { at + 26 ≤ length out.old }
     ensures { Stored (words (reason_text refusal ∷ [])) out.old at out.new result × (result ≤ at + 26) }

@@ -1,4 +1,5 @@
 -- What the proofs of these lines share: the words of each answer, the room for them, and that they are the line.
+use Rattle.std.specs.Prelude.{Option}
 use Prim.Native.Nat.{ℕ, ◌+◌, ◌≤◌}
 use mathlib.Core.Path.{◌≡◌, ap}
 use mathlib.Core.List.{List, [], ◌∷◌, ◌++◌}
@@ -9,7 +10,6 @@ use denote.Laws.{Is}
 use denote.Enum.Declared.{row}
 use Rattle.view.specs.declared.Place.{Place}
 use Rattle.view.specs.declared.Position.{Position}
-use Rattle.waitlist.specs.declared.Wakes.{Wakes}
 use Rattle.steps.specs.declared.Answer.{Answer}
 use Rattle.steps.specs.contracts.Answer.{the_type}
 use Rattle.printout.specs.Print.{answer_words, decimal, hex_in, wakes_words, words}
@@ -29,7 +29,7 @@ module _ {a : Answer} where
   unfolding answer_words
   waits told = rw told
 
-  pub region : {p : Place} {count x y : ℕ} {w : Wakes} → a ≡ Answer.Region p count w → x ≡ p.0 → y ≡ count
+  pub region : {p : Place} {count x y : ℕ} {w : Option ℕ} → a ≡ Answer.Region p count w → x ≡ p.0 → y ≡ count
       → answer_words a ≡ ascii "region" ∷ decimal x ∷ decimal y ∷ wakes_words w
   unfolding answer_words
   region told wide wide2 = rw (told, wide, wide2)
@@ -46,7 +46,7 @@ module _ {a : Answer} where
   unfolding answer_words
   none told = rw told
 
-  pub freed : {w : Wakes} → a ≡ Answer.Freed w → answer_words a ≡ ascii "freed" ∷ wakes_words w
+  pub freed : {w : Option ℕ} → a ≡ Answer.Freed w → answer_words a ≡ ascii "freed" ∷ wakes_words w
   unfolding answer_words
   freed told = rw told
 

@@ -1,5 +1,5 @@
-// The line of an answer past the event's number, one function for each kind of a lane's call.
-// Kinds with the same answers have functions of equal text on purpose: with one caller each is inlined there, and the answer is not passed through memory.
+// The line of an answer past the event's number, one function for each kind of a lane's call, or for two whose answers are the same.
+// All are inlined, those with one caller by the compiler's own choice, so that the answer is not passed through memory.
 #![tactic(auto)]
 
 ghost use Rattle.std.specs.Prelude.{◌+◌, ◌≤◌, length};
@@ -8,17 +8,16 @@ ghost use Rattle.kind_text.specs.Put.{Put};
 
 use answer_text::{put_refused, put_values};
 use steps::Answer;
-use word_text::{
-    LINE_END, put_freed, put_one, put_record, put_region, put_two, put_word, wide16, wide32,
-};
+use word_text::{LINE_END, put_freed, put_one, put_record, put_region, put_two, put_word};
 
 // 02 want.
+#[tactic(auto, unfolding(printout::specs::Print::answer_words, printout::specs::Print::words))]
 pub fn put_wanted(out: &mut [u8], at: usize, answer: Answer) -> usize
     requires { at + most_values ≤ length out.old }
     ensures { Put answer out.old at out.new result }
 {
     match answer {
-        Answer::Holds { pointer } => put_one(out, at, b"holds", wide32(pointer.0)),
+        Answer::Holds { pointer } => put_one(out, at, b"holds", u64::from(pointer.0)),
         Answer::Waits => put_word(out, at, b"waits", LINE_END),
         Answer::Refused { number } => put_refused(out, at, number),
         _ => put_values(out, at, answer),
@@ -31,7 +30,7 @@ pub fn put_received(out: &mut [u8], at: usize, answer: Answer) -> usize
     ensures { Put answer out.old at out.new result }
 {
     match answer {
-        Answer::Holds { pointer } => put_one(out, at, b"holds", wide32(pointer.0)),
+        Answer::Holds { pointer } => put_one(out, at, b"holds", u64::from(pointer.0)),
         Answer::Refused { number } => put_refused(out, at, number),
         _ => put_values(out, at, answer),
     }
@@ -47,13 +46,14 @@ pub fn put_taken(out: &mut [u8], at: usize, answer: Answer) -> usize
             start,
             count,
             wakes,
-        } => put_region(out, at, wide32(start.0), wide16(count), wakes),
+        } => put_region(out, at, u64::from(start.0), u64::from(count), wakes),
         Answer::Refused { number } => put_refused(out, at, number),
         _ => put_values(out, at, answer),
     }
 }
 
-// 05 write.
+// 05 write and 07 put, whose answers are the same.
+#[inline(always)]
 pub fn put_written(out: &mut [u8], at: usize, answer: Answer) -> usize
     requires { at + most_values ≤ length out.old }
     ensures { Put answer out.old at out.new result }
@@ -65,33 +65,10 @@ pub fn put_written(out: &mut [u8], at: usize, answer: Answer) -> usize
     }
 }
 
-// 06 read.
+// 06 read and 08 look, whose answers are the same.
+#[tactic(auto, unfolding(printout::specs::Print::answer_words, printout::specs::Print::words))]
+#[inline(always)]
 pub fn put_read(out: &mut [u8], at: usize, answer: Answer) -> usize
-    requires { at + most_values ≤ length out.old }
-    ensures { Put answer out.old at out.new result }
-{
-    match answer {
-        Answer::Record { content } => put_record(out, at, content),
-        Answer::None => put_word(out, at, b"none", LINE_END),
-        Answer::Refused { number } => put_refused(out, at, number),
-        _ => put_values(out, at, answer),
-    }
-}
-
-// 07 put.
-pub fn put_stored(out: &mut [u8], at: usize, answer: Answer) -> usize
-    requires { at + most_values ≤ length out.old }
-    ensures { Put answer out.old at out.new result }
-{
-    match answer {
-        Answer::Wrote { position } => put_one(out, at, b"wrote", position.0),
-        Answer::Refused { number } => put_refused(out, at, number),
-        _ => put_values(out, at, answer),
-    }
-}
-
-// 08 look.
-pub fn put_looked(out: &mut [u8], at: usize, answer: Answer) -> usize
     requires { at + most_values ≤ length out.old }
     ensures { Put answer out.old at out.new result }
 {
@@ -116,6 +93,7 @@ pub fn put_freed_line(out: &mut [u8], at: usize, answer: Answer) -> usize
 }
 
 // 0A enter.
+#[tactic(auto, unfolding(printout::specs::Print::answer_words, printout::specs::Print::words))]
 pub fn put_entered(out: &mut [u8], at: usize, answer: Answer) -> usize
     requires { at + most_values ≤ length out.old }
     ensures { Put answer out.old at out.new result }
@@ -123,7 +101,7 @@ pub fn put_entered(out: &mut [u8], at: usize, answer: Answer) -> usize
     match answer {
         Answer::Gathered => put_word(out, at, b"gathered", LINE_END),
         Answer::Ordered { before, total } => {
-            put_two(out, at, b"ordered", wide32(before.0), wide32(total))
+            put_two(out, at, b"ordered", u64::from(before.0), u64::from(total))
         }
         Answer::Refused { number } => put_refused(out, at, number),
         _ => put_values(out, at, answer),

@@ -5,7 +5,7 @@ ghost use Rattle.std.specs.Prelude.{◌≡◌, [], ◌∷◌, ◌+◌, ◌-◌, 
 ghost use Rattle.event.specs.BigEndian.{number_of};
 ghost use Rattle.line_number.specs.Numbered.{InDigits, Keeps, Numbered, number_in};
 
-use encode_fields::put_u64;
+use encode_fields::Field;
 use word_text::{BLANK, put_number};
 
 // `word` has the bytes of the number and of a blank, the first highest, and `width` is how many they are; `unit` is 1 in the byte of the last digit; `left` is
@@ -28,6 +28,7 @@ pub fn number_of(own: LineNumber) -> u64
 }
 
 // Two digits as bytes.
+#[tactic(auto, unfolding(event::specs::BigEndian::number_of))]
 fn pair_of(n: u64) -> u64
     requires { n < 100 }
     ensures { (result ≡ number_of ((48 + n / 10) ∷ (48 + n % 10) ∷ [])) × (result < 65536) }
@@ -50,6 +51,7 @@ fn without_bytes(n: u64, left: u64) -> LineNumber
 }
 
 // A number by its digits as bytes; `blank` is 1 in the byte of the blank.
+#[tactic(auto, using(crate::proofs::Bytes::digits_fit, crate::proofs::Bytes::digits_kept))]
 fn of_digits(n: u64, digits: u64, width: usize, blank: u64, left: u64) -> LineNumber
     requires { InDigits n digits width blank × (left ≡ 10 - n % 10) × (n + 10 < 18446744073709551616) }
     ensures { Keeps n result }
@@ -72,30 +74,28 @@ pub fn plain_number(n: u64) -> LineNumber
 }
 
 // A line's number, with its bytes where it has two to five digits.
+#[tactic(auto, using(crate::proofs::Bytes::two_digits, crate::proofs::Bytes::three_digits, crate::proofs::Bytes::four_digits, crate::proofs::Bytes::five_digits))]
 fn line_number(n: u64) -> LineNumber
     requires { n + 10 < 18446744073709551616 }
     ensures { Keeps n result }
 {
     let left = 10 - n % 10;
     if n < 10 {
-        return without_bytes(n, left);
-    }
-    if n < 100 {
-        return of_digits(n, pair_of(n), 3, 0x10000000000, left);
-    }
-    if n < 1000 {
+        without_bytes(n, left)
+    } else if n < 100 {
+        of_digits(n, pair_of(n), 3, 0x10000000000, left)
+    } else if n < 1000 {
         let digits = (48 + n / 100) * 65536 + pair_of(n % 100);
-        return of_digits(n, digits, 4, 0x100000000, left);
-    }
-    if n < 10000 {
+        of_digits(n, digits, 4, 0x100000000, left)
+    } else if n < 10000 {
         let digits = pair_of(n / 100) * 65536 + pair_of(n % 100);
-        return of_digits(n, digits, 5, 0x1000000, left);
-    }
-    if n < 100000 {
+        of_digits(n, digits, 5, 0x1000000, left)
+    } else if n < 100000 {
         let front = (48 + n / 10000) * 65536 + pair_of(n / 100 % 100);
-        return of_digits(n, front * 65536 + pair_of(n % 100), 6, 0x10000, left);
+        of_digits(n, front * 65536 + pair_of(n % 100), 6, 0x10000, left)
+    } else {
+        without_bytes(n, left)
     }
-    without_bytes(n, left)
 }
 
 // The number of the next line.
@@ -105,25 +105,26 @@ pub fn next_number(own: LineNumber) -> LineNumber
     ensures { Keeps (number_in own + 1) result }
 {
     if own.left == 1 {
-        return line_number(own.ten);
-    }
-    LineNumber {
-        ten: own.ten,
-        word: own.word + own.unit,
-        width: own.width,
-        unit: own.unit,
-        left: own.left - 1,
+        line_number(own.ten)
+    } else {
+        LineNumber {
+            word: own.word + own.unit,
+            left: own.left - 1,
+            ..own
+        }
     }
 }
 
 // Stores the number and the blank, and up to five bytes after them, over which the rest of the line is stored; the index after the blank.
+#[tactic(auto, using(crate::proofs::Lines::numbered_plain, crate::proofs::Lines::numbered_word, number_text::proofs::Decimal::few_digits))]
 pub fn put_line_number(out: &mut [u8], at: usize, own: LineNumber) -> usize
     requires { Keeps (number_in own) own × (at + 21 ≤ length out.old) }
     ensures { Numbered (number_in own) out.old at out.new result }
 {
     if own.width == 0 {
-        return put_number(out, at, number_of(own), BLANK);
+        put_number(out, at, number_of(own), BLANK)
+    } else {
+        own.word.put(out, at);
+        at + own.width
     }
-    put_u64(out, at, own.word);
-    at + own.width
 }

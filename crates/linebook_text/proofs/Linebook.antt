@@ -12,7 +12,8 @@ use Rattle.lists.proofs.Tests.{by_test}
 use Rattle.limits.specs.Limits.{most_capacity, most_sheet}
 use Rattle.printout.specs.Print.{linebook}
 use Rattle.printout.proofs.OldBytes.{linebook_any}
-use Rattle.answer_text.specs.declared.Printed.{Printed}
+use Rattle.answer_text.specs.declared.TooShort.{TooShort}
+use Rattle.std.specs.Prelude.{Result, Ok}
 use Rattle.line.specs.Line.{unopened}
 use Rattle.line.specs.declared.Line.{Line}
 use Rattle.steps.specs.Meets.{state_of}
@@ -49,20 +50,20 @@ prints_linebook book sheet out b h =
     let same = linebook_any book b sheet least in
     let plain = without_17_as_without_report (fresh book) empty_report sheet (empty_report_never_17 (fresh book) sheet least) in
     let room : leb (most_text (length sheet)) (length out) ≡ true = le-leb (most_text (length sheet)) (length out) (omega arith) in
-    record { answer = rw (plain, short, room) (ap (λ (t : List ℕ). Printed.Length (length t)) same); text = rw (plain, short, room) (ap (sets out 0) same) })
+    record { answer = rw (plain, short, room) (ap Ok (ap length same)); text = rw (plain, short, room) (ap (sets out 0) same) })
 
 short_fits : (out : List ℕ) → text_fits (too_long_printed out) (length out) ≡ true
 short_fits out =
     by_test (ltb (length out) 15) (λ e. rw e) (λ e. rw e (le-leb 15 (length out) (ltb-false (length out) 15 e)))
 
 -- ---- what is printed of a sheet meets its contract
-pub met_long : (book sheet out : List ℕ) (r : Printed) (out-left : List ℕ) → is_too_long sheet ≡ true → TooLongMeets out r out-left → SheetMeets book sheet out r book out-left
+pub met_long : (book sheet out : List ℕ) (r : Result ℕ TooShort) (out-left : List ℕ) → is_too_long sheet ≡ true → TooLongMeets out r out-left → SheetMeets book sheet out r book out-left
 met_long book sheet out r out-left long m =
     record {
       answer = rw long m.answer;
       book_after = rw long refl;
       text = rw long m.text;
-      fits = subst (λ (q : Printed). text_fits q (length out) ≡ true) (sym m.answer) (short_fits out);
+      fits = subst (λ (q : Result ℕ TooShort). text_fits q (length out) ≡ true) (sym m.answer) (short_fits out);
       whole = λ b h. rw (m.answer, m.text) (rw long at (prints_linebook book sheet out b h));
     }
 

@@ -1,10 +1,11 @@
 -- Texts stored one after the other are the texts stored together.
-use Prim.Native.Nat.{ℕ, suc, ◌+◌}
-use mathlib.Core.Path.{◌≡◌, refl, ap, ◌∙◌}
-use mathlib.Core.List.{List, [], ◌∷◌, ◌++◌}
+use Prim.Native.Nat.{ℕ, suc, ◌+◌, ◌-◌, ◌≤◌}
+use mathlib.Core.Path.{◌≡◌, refl, sym, ap, ◌∙◌}
+use mathlib.Core.List.{List, [], ◌∷◌, ◌++◌, append_assoc}
 use native.Mathlib.Omega.{arith}
-use lib.ListN.{length, length-append, set}
-use lib.Seq.{length-sets}
+use lib.ListN.{drop, length, length-append, set, take}
+use lib.Seq.{drop-drop, length-sets, sets-eq}
+use borrow.Rule.Slice.PartMut.{put_mid}
 use Rattle.lists.proofs.Sets.{sets_append}
 use Rattle.number_text.specs.Stored.{Stored}
 
@@ -34,3 +35,11 @@ then_byte {text} {before} {after} {at} k byte stored =
 -- two bytes, one after the other
 pub two_bytes : (before : List ℕ) (at : ℕ) {low high a b : ℕ} → low ≡ a → high ≡ b → Stored (a ∷ b ∷ []) before at (set (set before at low) (at + 1) high) (at + 2)
 two_bytes before at {low} {high} {a} {b} first second = rw (first, second) (then_byte 1 b (one_byte before at a))
+
+-- a text that is written over a part of the buffer
+pub part_stored : (before text part : List ℕ) (at end : ℕ) → part ≡ text → end ≤ length before → end ≡ at + length text
+    → Stored text before at (put_mid at (end - at) before part) end
+part_stored before text part at end same room ends =
+    let fits : at + length text ≤ length before = omega arith in
+    let long : end - at ≡ length text = omega arith in
+    record { bytes = rw (same, long, drop-drop) (sym (sets-eq text before at fits ∙ append_assoc (take at before) text (drop (at + length text) before))); ends = ends }

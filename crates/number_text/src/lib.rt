@@ -1,4 +1,5 @@
 // Numbers in decimal and in hexadecimal, stored as ASCII digits in a lent buffer.
+// `as u8` narrows what is proved to fit: `u8::try_from` would test it again for each digit.
 #![tactic(auto)]
 
 ghost use Rattle.std.specs.Prelude.{◌≡◌, [], ◌∷◌, ◌+◌, ◌/◌, ◌%◌, ◌≤◌, ◌<◌, length};
@@ -24,11 +25,12 @@ fn put_long(out: &mut [u8], at: usize, n: u64) -> usize
 {
     if n < 10 {
         out[at] = b'0' + n as u8;
-        return at + 1;
+        at + 1
+    } else {
+        let last = put_long(out, at, n / 10);
+        out[last] = b'0' + (n % 10) as u8;
+        last + 1
     }
-    let last = put_long(out, at, n / 10);
-    out[last] = b'0' + (n % 10) as u8;
-    last + 1
 }
 
 // A number in decimal, without leading zeros, from an index on; the index after it.
@@ -39,25 +41,22 @@ pub fn put_decimal(out: &mut [u8], at: usize, n: u64) -> usize
 {
     if n < 10 {
         out[at] = b'0' + n as u8;
-        return at + 1;
-    }
-    if n < 100 {
-        return put_pair(out, at, n);
-    }
-    if n < 1000 {
+        at + 1
+    } else if n < 100 {
+        put_pair(out, at, n)
+    } else if n < 1000 {
         out[at] = b'0' + (n / 100) as u8;
-        return put_pair(out, at + 1, n % 100);
-    }
-    if n < 10000 {
+        put_pair(out, at + 1, n % 100)
+    } else if n < 10000 {
         let last = put_pair(out, at, n / 100);
-        return put_pair(out, last, n % 100);
-    }
-    if n < 100000 {
+        put_pair(out, last, n % 100)
+    } else if n < 100000 {
         out[at] = b'0' + (n / 10000) as u8;
         let last = put_pair(out, at + 1, n / 100 % 100);
-        return put_pair(out, last, n % 100);
+        put_pair(out, last, n % 100)
+    } else {
+        put_long(out, at, n)
     }
-    put_long(out, at, n)
 }
 
 // A hexadecimal digit, in lowercase: a letter stands 39 past where the digits would go on.
@@ -70,6 +69,7 @@ pub fn hex_digit(d: u64) -> u8
 }
 
 // A number in 16 hexadecimal digits from an index on; the index after it.
+// Sixteen stores and not a loop, so that the compiler makes the digits in vector operations.
 pub fn put_hex(out: &mut [u8], at: usize, n: u64) -> usize
     requires { at + 16 ≤ length out.old }
     ensures { Stored (hex_in 16 n) out.old at out.new result }

@@ -8,7 +8,7 @@ ghost use Rattle.printout.specs.Print.{decimal, words};
 ghost use Rattle.report_text.specs.Table.{cell, has_wait, header, wait_line, wait_lines, numbers_of, row_line, table};
 ghost use Rattle.report_text.specs.Printing.{TableMeets, most_cell, most_wait_lines, most_numbers, most_table, most_table_line};
 
-use answer_text::Printed;
+use answer_text::TooShort;
 use column_text::put_blanks;
 use limits::MOST_LANES;
 use report::{Report, Row, mean, remainder};
@@ -29,13 +29,10 @@ pub const MOST_TABLE: usize = (MOST_LANES + 2) * MOST_TABLE_LINE;
 fn digits(n: u64) -> usize
     ensures { result ≡ length (decimal n) }
 {
-    let mut left = n;
-    let mut count: usize = 1;
-    while 10 <= left {
-        left = left / 10;
-        count += 1;
+    match n.checked_ilog10() {
+        Some(power) => power as usize + 1,
+        None => 1,
     }
-    count
 }
 
 // Where a text of this length starts, so that it ends at the width; a longer one starts at once.
@@ -43,10 +40,7 @@ fn text_start(at: usize, width: usize, length: usize) -> usize
     requires { at + width ≤ 18446744073709551615 }
     ensures { result ≡ at + (width - length) }
 {
-    if width < length {
-        return at;
-    }
-    at + (width - length)
+    at + width.saturating_sub(length)
 }
 
 // A number as a cell, and the byte after it.
@@ -78,10 +72,7 @@ fn put_numbers(out: &mut [u8], at: usize, row: Row) -> usize
 fn has_wait(row: Row) -> bool
     ensures { result ≡ has_wait row }
 {
-    if 0 < row.times {
-        return true;
-    }
-    0 < row.unended
+    0 < row.times || 0 < row.unended
 }
 
 // The line of a lane; of one without any wait nothing.
@@ -89,11 +80,12 @@ fn put_lane(out: &mut [u8], at: usize, lane: u64, row: Row) -> usize
     requires { at + most_table_line ≤ length out.old }
     ensures { Stored (wait_line lane row) out.old at out.new result × (result ≤ at + most_table_line) }
 {
-    if !has_wait(row) {
-        return at;
+    if has_wait(row) {
+        let next = put_cell(out, at, FIRST_WIDTH, lane, BLANK);
+        put_numbers(out, next, row)
+    } else {
+        at
     }
-    let next = put_cell(out, at, FIRST_WIDTH, lane, BLANK);
-    put_numbers(out, next, row)
 }
 
 // The lines of the lanes.
@@ -102,11 +94,8 @@ fn put_lanes(out: &mut [u8], at: usize, lanes: [Row; MOST_LANES]) -> usize
     ensures { Stored (wait_lines 0 lanes) out.old at out.new result × (result ≤ at + most_wait_lines) }
 {
     let mut end = at;
-    let mut i: usize = 0;
-    while i < MOST_LANES {
-        let row = lanes[i];
-        end = put_lane(out, end, i as u64, row);
-        i += 1;
+    for (lane, row) in lanes.iter().enumerate() {
+        end = put_lane(out, end, lane as u64, *row);
     }
     end
 }
@@ -138,19 +127,18 @@ pub fn put_table(report: Report, out: &mut [u8], at: usize) -> usize
     requires { at + most_table ≤ length out.old }
     ensures { Stored (table report) out.old at out.new result × (result ≤ at + most_table) }
 {
-    let lanes = report.lane;
-    let all = report.all;
     let to_lanes = put_header(out, at);
-    let to_all = put_lanes(out, to_lanes, lanes);
-    put_all(out, to_all, all)
+    let to_all = put_lanes(out, to_lanes, report.lane);
+    put_all(out, to_all, report.all)
 }
 
 // The table at the start of a lent buffer and its length, or TooShort and the buffer as it was.
-pub fn print_table(report: Report, out: &mut [u8]) -> Printed
+pub fn print_table(report: Report, out: &mut [u8]) -> Result<usize, TooShort>
     ensures { TableMeets report out.old result out.new }
 {
     if out.len() < MOST_TABLE {
-        return Printed::TooShort;
+        Err(TooShort)
+    } else {
+        Ok(put_table(report, out, 0))
     }
-    Printed::Length(put_table(report, out, 0))
 }

@@ -6,7 +6,6 @@ ghost use Rattle.number_text.specs.Stored.{Stored};
 ghost use Rattle.run_text.specs.RunText.{last_lines, most_last, most_text};
 
 use answer_text::{MOST_LINE, put_answer, put_end};
-use event::Reading;
 use line::Line;
 use steps::Answer;
 
@@ -17,21 +16,17 @@ pub const MOST_LAST: usize = 2 * MOST_LINE;
 pub fn has_room(sheet: usize, out: usize) -> bool
     ensures { result ≡ leb (most_text sheet) out }
 {
-    if out < MOST_LAST {
-        return false;
-    }
-    sheet <= (out - MOST_LAST) / MOST_LINE
+    MOST_LAST <= out && sheet <= (out - MOST_LAST) / MOST_LINE
 }
 
-// The last lines: the refusal of bytes that are no event, where there is one, and `end` with the size and the pointer.
-pub fn put_last(line: Line, reading: Reading, out: &mut [u8], at: usize, number: u64) -> usize
+// The last lines: what the sheet or the run was refused for, by its number, where it was, and `end` with the size and the pointer.
+pub fn put_last(line: Line, refusal: Option<u8>, out: &mut [u8], at: usize, number: u64) -> usize
     requires { at + most_last ≤ length out.old }
-    ensures { Stored (last_lines number reading line) out.old at out.new result × (result ≤ at + most_last) }
+    ensures { Stored (last_lines number refusal line) out.old at out.new result × (result ≤ at + most_last) }
 {
-    let pointer = line.pointer;
-    let Reading::Refused(refusal) = reading else {
-        return put_end(out, at, line.size, pointer);
+    let end = match refusal {
+        Some(reason) => put_answer(out, at, number, Answer::Refused { number: reason }),
+        None => at,
     };
-    let next = put_answer(out, at, number, Answer::Refused { number: refusal });
-    put_end(out, next, line.size, pointer)
+    put_end(out, end, line.size, line.pointer)
 }

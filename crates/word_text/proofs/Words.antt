@@ -1,10 +1,10 @@
 -- Lines as words with single blanks between them, one word at a time.
+use Rattle.std.specs.Prelude.{Option, Some, None}
 use Prim.Native.Nat.{ℕ, ◌+◌}
 use mathlib.Core.Path.{◌≡◌, refl}
 use mathlib.Core.List.{List, [], ◌∷◌, ◌++◌}
 use native.Mathlib.Omega.{arith}
 use lib.ListN.{length, length-append}
-use Rattle.waitlist.specs.declared.Wakes.{Wakes}
 use Rattle.number_text.specs.Stored.{Stored}
 use Rattle.printout.specs.Text.{ascii}
 use Rattle.printout.specs.Print.{wakes_words, words}
@@ -29,13 +29,13 @@ pub past : {before after : List ℕ} {at answer : ℕ} (w : List ℕ) (byte : �
 past {before} {after} {at} {answer} w byte s = omega (arith, s.ends, length-append w (byte ∷ []))
 
 -- a word before those of a wake, of which there is always one
-pub before_wakes : (w : List ℕ) (x : Wakes) → words (w ∷ wakes_words x) ≡ (w ++ 32 ∷ []) ++ words (wakes_words x)
+pub before_wakes : (w : List ℕ) (x : Option ℕ) → words (w ∷ wakes_words x) ≡ (w ++ 32 ∷ []) ++ words (wakes_words x)
 unfolding words
-before_wakes w (Wakes.Lane i) = refl
-before_wakes w Wakes.None = refl
+before_wakes w (Some i) = refl
+before_wakes w None = refl
 
-pub wakes_length : (w : List ℕ) (x : Wakes) → length (words (w ∷ wakes_words x)) ≡ length w + 1 + length (words (wakes_words x))
+pub wakes_length : (w : List ℕ) (x : Option ℕ) → length (words (w ∷ wakes_words x)) ≡ length w + 1 + length (words (wakes_words x))
 wakes_length w x = rw (before_wakes w x) (simp length-append)
 
-pub region_length : (v u : List ℕ) (x : Wakes) → length (words (ascii "region" ∷ v ∷ u ∷ wakes_words x)) ≡ length v + length u + length (words (wakes_words x)) + 9
+pub region_length : (v u : List ℕ) (x : Option ℕ) → length (words (ascii "region" ∷ v ∷ u ∷ wakes_words x)) ≡ length v + length u + length (words (wakes_words x)) + 9
 region_length v u x = omega (arith, more_length (ascii "region") v (u ∷ wakes_words x), more_length v u (wakes_words x), wakes_length u x)

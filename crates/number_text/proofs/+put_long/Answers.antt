@@ -18,8 +18,8 @@ put_long-last-requires t c = (omega arith, omega (arith, more_length c.args.n c.
 pub bounds-out-last : goal.bounds-out-last
 bounds-out-last t c = omega (arith, more_length c.args.n c.if-n-lt10.false (omega arith), c.put_long-last.ensures.ends, stored_length c.put_long-last.ensures)
 
-pub overflow_add-result-2 : goal.overflow_add-result-2
-overflow_add-result-2 t c = omega (arith, more_length c.args.n c.if-n-lt10.false (omega arith), c.put_long-last.ensures.ends)
+pub overflow_add-result-else-n-lt10 : goal.overflow_add-result-else-n-lt10
+overflow_add-result-else-n-lt10 t c = omega (arith, more_length c.args.n c.if-n-lt10.false (omega arith), c.put_long-last.ensures.ends)
 
-pub returns : goal.returns
-returns t c = rw (decimal_more c.args.n c.if-n-lt10.false (omega arith)) (and_then c.put_long-last.ensures (one_byte _ _ _))
+pub returns-else-n-lt10 : goal.returns-else-n-lt10
+returns-else-n-lt10 t c = rw (decimal_more c.args.n c.if-n-lt10.false (omega arith)) (and_then c.put_long-last.ensures (one_byte _ _ _))

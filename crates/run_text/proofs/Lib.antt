@@ -1,2 +1,0 @@
--- The laws of the last lines.
-pub mod Last
