@@ -5,12 +5,12 @@ ghost use Rattle.std.specs.Prelude.{◌+◌, ◌≤◌, ◌≡◌, length};
 ghost use Rattle.limits.specs.Limits.{most_sheet};
 ghost use Rattle.run_text.specs.RunText.{most_text};
 
-use answer_text::{MOST_LINE, Printed};
+use answer_text::MOST_LINE;
 use limits::MOST_SHEET;
 use linebook_text::print_sheet;
 use notation_mistake::is_notation;
 use run_text::MOST_LAST;
-use standard_io::{Input, has_argument, is_word};
+use standard_io::{has_argument, is_word};
 use std::io::Error;
 
 // One byte more than the longest sheet is read, to tell a longer one.
@@ -58,8 +58,7 @@ fn print_in(rt: &HostRuntime, sheet: &[u8], text: &mut [u8])
     requires { most_text most_sheet ≡ length text.old }
 {
     let mut book = io::large_buffer();
-    let printed = print_sheet(sheet, &mut book, text);
-    if let Printed::Length(count) = printed {
+    if let Ok(count) = print_sheet(sheet, &mut book, text) {
         print_first(rt, text, count);
     }
 }
@@ -84,9 +83,9 @@ fn tell_notation(rt: &HostRuntime) {
 fn tell_long(rt: &HostRuntime, bytes: &[u8]) {
     if notation::looks_like_notation(bytes) {
         tell_notation(rt);
-        return;
+    } else {
+        tell(rt, b"linebook: the sheet is longer than 65536 bytes\n");
     }
-    tell(rt, b"linebook: the sheet is longer than 65536 bytes\n");
 }
 
 // Runs the first bytes of a buffer as a sheet, and says where they are none as a whole.
@@ -110,17 +109,14 @@ fn run_first(rt: &HostRuntime, space: &[u8], count: usize)
 fn run_input(rt: &HostRuntime) {
     let mut space = sheet_buffer();
     match standard_io::read_input(rt, &mut space) {
-        Input::Length(count) => run_first(rt, &space, count),
-        Input::Failed(error) => {
-            tell_failure(rt, b"linebook: cannot read standard input", &error)
-        }
+        Ok(count) => run_first(rt, &space, count),
+        Err(error) => tell_failure(rt, b"linebook: cannot read standard input", &error),
     }
 }
 
 // Prints the library's version.
 fn print_version(rt: &HostRuntime) {
-    let line = version::line();
-    print(rt, &line);
+    print(rt, &version::line());
 }
 
 // Whether the process may have the stack that a run takes.
@@ -133,16 +129,12 @@ fn main(rt: HostRuntime) {
         if has_stack(&rt) {
             run_input(&rt);
         }
-        return;
+    } else if !has_argument(&rt, 2) && is_word(&rt, b"version") {
+        print_version(&rt);
+    } else {
+        tell(
+            &rt,
+            b"linebook: use: linebook < SHEET, linebook version or linebook help\n",
+        );
     }
-    if !has_argument(&rt, 2) {
-        if is_word(&rt, b"version") {
-            print_version(&rt);
-            return;
-        }
-    }
-    tell(
-        &rt,
-        b"linebook: use: linebook < SHEET, linebook version or linebook help\n",
-    );
 }

@@ -5,7 +5,7 @@
 ghost use Rattle.std.specs.Prelude.{◌+◌, ◌≤◌, ◌≡◌, length};
 ghost use Rattle.limits.specs.Limits.{most_sheet};
 
-use answer_text::{MOST_LINE, Printed};
+use answer_text::MOST_LINE;
 use limits::MOST_SHEET;
 use line::Line;
 use notation_mistake::is_notation;
@@ -13,7 +13,7 @@ use report::Report;
 use report_text::print_table;
 use run::run_reported;
 use run_text::MOST_LAST;
-use standard_io::{Input, has_argument, is_word};
+use standard_io::{has_argument, is_word};
 use std::env::Env;
 use std::fs::File;
 use std::io::{Error, Read};
@@ -77,17 +77,15 @@ fn tell_notation(rt: &HostRuntime, name: &[u8]) {
 fn tell_long(rt: &HostRuntime, name: &[u8], bytes: &[u8]) {
     if notation::looks_like_notation(bytes) {
         tell_notation(rt, name);
-        return;
+    } else {
+        tell(rt, name, b" is longer than 65536 bytes\n");
     }
-    tell(rt, name, b" is longer than 65536 bytes\n");
 }
 
 // Runs a sheet from an unopened line on a book of 65,536 zeros; the text of the run, for which a buffer with room is lent, is not printed.
 fn run_in(sheet: &[u8], text: &mut [u8], report: Report) -> Report {
     let mut book = io::large_buffer();
-    let line = Line::unopened();
-    let ran = run_reported(line, &mut book, sheet, text, report);
-    ran.report
+    run_reported(Line::unopened(), &mut book, sheet, text, report).report
 }
 
 // The same with a buffer of its own, made in place: as a function's result it would lie on the stack more than once where nothing is inlined.
@@ -118,8 +116,8 @@ fn run_first(rt: &HostRuntime, name: &[u8], space: &[u8], count: usize, report: 
 fn run_open(rt: &HostRuntime, name: &[u8], file: &mut impl Read, report: Report) -> Report {
     let mut space = sheet_buffer();
     match standard_io::read_file(rt, file, &mut space) {
-        Input::Length(count) => run_first(rt, name, &space, count, report),
-        Input::Failed(error) => {
+        Ok(count) => run_first(rt, name, &space, count, report),
+        Err(error) => {
             tell_unread(rt, name, &error);
             report
         }
@@ -187,8 +185,7 @@ fn print_first(rt: &HostRuntime, text: &[u8], count: usize)
 // Prints a report as a table.
 fn print_report(rt: &HostRuntime, report: Report) {
     let mut out = io::large_buffer();
-    let printed = print_table(report, &mut out);
-    if let Printed::Length(count) = printed {
+    if let Ok(count) = print_table(report, &mut out) {
         print_first(rt, &out, count);
     }
 }
@@ -196,15 +193,13 @@ fn print_report(rt: &HostRuntime, report: Report) {
 // What a word alone asks for; false where the one argument is a file's name.
 fn is_done(rt: &HostRuntime) -> bool {
     if is_word(rt, b"version") {
-        let line = version::line();
-        print(rt, &line);
-        return true;
-    }
-    if is_word(rt, b"help") {
+        print(rt, &version::line());
+    } else if is_word(rt, b"help") {
         tell_use(rt);
-        return true;
+    } else {
+        return false;
     }
-    false
+    true
 }
 
 // Tells the program's use.
@@ -225,10 +220,8 @@ fn main(rt: HostRuntime) {
         tell_use(&rt);
         return;
     }
-    if !has_argument(&rt, 2) {
-        if is_done(&rt) {
-            return;
-        }
+    if !has_argument(&rt, 2) && is_done(&rt) {
+        return;
     }
     if has_stack(&rt) {
         let report = run_arguments(&rt);

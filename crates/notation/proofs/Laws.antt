@@ -1,14 +1,8 @@
 -- What a loop over a text has left of it: its bytes, its first fault and the spot after it, from an index on.
-use Prim.Native.Nat.{ℕ, ◌+◌, ◌≤◌, ◌<◌}
-use mathlib.Core.Path.{◌≡◌, ap, sym, ◌∙◌}
-use mathlib.Core.Bool.{true, false}
-use mathlib.Core.List.{List, [], ◌++◌}
-use lib.ListN.{drop, get_or, length, length-append}
-use borrow.Author.Tests.{eq-eqb, ne_eqb}
+use Rattle.std.proofs.Common.{ℕ, ◌+◌, ◌≤◌, ◌<◌, ◌≡◌, true, false, List, [], ◌++◌, drop, get_or, length, length-append, ap, ◌∙◌, Some, None}
 use Rattle.lists.proofs.Loops.{drop_end}
 use Rattle.lists.proofs.Parts.{drop_more}
-use Rattle.notation.specs.Notation.{begins_notation, bytes_from, fault_from, is_free, made_of, missing_at, opens_notation, spot_from, spot_past, character_step}
-use Rattle.notation.specs.declared.Fault.{Fault}
+use Rattle.notation.specs.Notation.{after, begins_notation, bytes_from, character_step, end_fault, fault_from, is_free, made_of, missing_at, opens_notation, spot_from, spot_past}
 use Rattle.notation.specs.declared.Spot.{Spot}
 use Rattle.notation.specs.declared.State.{State}
 
@@ -17,44 +11,34 @@ module _ (s : State) (l : List ℕ) (i : ℕ) where
   unfolding bytes_from
   bytes_end h = rw (drop_end l i h)
 
-  pub fault_none : length l ≤ i → s.high ≡ 16 → fault_from i s (drop i l) ≡ Fault.None
+  pub fault_end : length l ≤ i → fault_from i s (drop i l) ≡ end_fault s i
   unfolding fault_from
-  fault_none h e = rw (drop_end l i h, eq-eqb s.high 16 e)
+  fault_end h = rw (drop_end l i h)
 
-  pub fault_second : length l ≤ i → (s.high ≡ 16 → ⊥) → fault_from i s (drop i l) ≡ Fault.NoSecond i
-  unfolding fault_from
-  fault_second h ne = rw (drop_end l i h, ne_eqb s.high 16 ne)
+  module _ (h : i < length l) where
+    pub bytes_more : bytes_from s (drop i l) ≡ made_of (after s (get_or l i 0)) ++ bytes_from (after s (get_or l i 0)) (drop (i + 1) l)
+    unfolding bytes_from
+    bytes_more = rw (drop_more l i 0 h)
 
-  fault_next : i < length l → (character_step s (get_or l i 0)).bad ≡ false
-      → fault_from i s (drop i l) ≡ fault_from (i + 1) (character_step s (get_or l i 0)) (drop (i + 1) l)
-  unfolding fault_from
-  fault_next h bad = rw (drop_more l i 0 h, bad)
+    pub length_more : length (bytes_from s (drop i l)) ≡ length (made_of (after s (get_or l i 0))) + length (bytes_from (after s (get_or l i 0)) (drop (i + 1) l))
+    length_more = ap length bytes_more ∙ length-append (made_of (after s (get_or l i 0))) (bytes_from (after s (get_or l i 0)) (drop (i + 1) l))
 
--- with r the state after the character at i
-module _ (s : State) (l : List ℕ) (i : ℕ) (h : i < length l) (r : State) (e : r ≡ character_step s (get_or l i 0)) where
-  pub bytes_more : bytes_from s (drop i l) ≡ made_of r ++ bytes_from r (drop (i + 1) l)
-  unfolding bytes_from
-  bytes_more = rw (drop_more l i 0 h, e)
+    pub fault_here : character_step s (get_or l i 0) ≡ None → fault_from i s (drop i l) ≡ Some (missing_at s i)
+    unfolding fault_from
+    fault_here e = rw (drop_more l i 0 h, e)
 
-  pub length_more : length (bytes_from s (drop i l)) ≡ length (made_of r) + length (bytes_from r (drop (i + 1) l))
-  length_more = ap length bytes_more ∙ length-append (made_of r) (bytes_from r (drop (i + 1) l))
-
-  pub fault_here : r.bad ≡ true → fault_from i s (drop i l) ≡ missing_at s i
-  unfolding fault_from
-  fault_here t = let bad : (character_step s (get_or l i 0)).bad ≡ true = sym (ap (λ (x : State). x.bad) e) ∙ t in rw (drop_more l i 0 h, bad)
-
-  pub fault_more : r.bad ≡ false → fault_from i s (drop i l) ≡ fault_from (i + 1) r (drop (i + 1) l)
-  fault_more f = fault_next s l i h (sym (ap (λ (x : State). x.bad) e) ∙ f) ∙ ap (λ (x : State). fault_from (i + 1) x (drop (i + 1) l)) (sym e)
+    pub fault_more : (r : State) → character_step s (get_or l i 0) ≡ Some r → fault_from i s (drop i l) ≡ fault_from (i + 1) r (drop (i + 1) l)
+    unfolding fault_from
+    fault_more r e = rw (drop_more l i 0 h, e)
 
 module _ (s : Spot) (previous : ℕ) (l : List ℕ) (i : ℕ) where
   pub spot_end : length l ≤ i → spot_from s previous (drop i l) ≡ s
   unfolding spot_from
   spot_end h = rw (drop_end l i h)
 
-  pub spot_more : i < length l → (r : Spot) → r ≡ spot_past s previous (get_or l i 0)
-      → spot_from s previous (drop i l) ≡ spot_from r (get_or l i 0) (drop (i + 1) l)
+  pub spot_more : i < length l → spot_from s previous (drop i l) ≡ spot_from (spot_past s previous (get_or l i 0)) (get_or l i 0) (drop (i + 1) l)
   unfolding spot_from
-  spot_more h r e = rw (drop_more l i 0 h, e)
+  spot_more h = rw (drop_more l i 0 h)
 
 -- whether what is left opens notation
 module _ (l : List ℕ) (i : ℕ) where

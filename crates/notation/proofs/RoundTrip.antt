@@ -1,56 +1,51 @@
 -- Bytes written in the notation are read back, whatever free characters stand between them; and a byte order mark changes nothing.
 use Prim.Native.Nat.{ℕ, ◌+◌, ◌*◌, ◌/◌, ◌%◌, ◌<◌, ◌≤◌}
 use mathlib.Core.Path.{◌≡◌, refl, ap}
-use mathlib.Core.Bool.{true, false}
+use mathlib.Core.Bool.{true}
 use mathlib.Core.List.{List, [], ◌∷◌, ◌++◌}
 use native.Mathlib.Omega.{arith}
-use lib.Dec.{eqb, ltb}
+use lib.Dec.{ltb}
 use lib.ListN.{length}
 use lib.Seq.{sets}
 use borrow.Author.Tests.{le-ltb, ltb-true, ne_eqb}
 use Rattle.lists.proofs.Tests.{and_left, and_right}
 use Rattle.lists.specs.Lists.{all_pass}
 use Rattle.printout.specs.Print.{hex_digit}
-use Rattle.notation.specs.Notation.{bytes_from, character_step, fault_from, is_free, left_of, mark_length, most_notation, parsed_of, passed_of, start, whole}
+use Rattle.notation.specs.Notation.{bytes_from, character_step, fault_from, is_free, left_of, mark_length, most_notation, parsed_of}
 use Rattle.notation.specs.Written.{byte_order_mark, is_byte, written}
-use Rattle.notation.specs.declared.Fault.{Fault}
-use Rattle.notation.specs.declared.Parsed.{Parsed}
-use Rattle.notation.proofs.Characters.{Digit, free_neither, hex_digit_lem, same_both, two_digits}
+use Rattle.notation.specs.declared.State.{State}
+use Rattle.std.proofs.Common.{Some, None, Ok}
+use Rattle.notation.proofs.Characters.{Digit, free_neither, hex_digit_lem, none_some, same_both, two_digits}
 use Rattle.notation.proofs.Pairs.{bytes_whole, fault_whole}
 
 -- no fault from any index on
 abbrev Faultless : List ℕ → Type 0
-Faultless text = (at : ℕ) → fault_from at start text ≡ Fault.None
+Faultless text = (at : ℕ) → fault_from at State.Between text ≡ None
 
 -- ---- free characters are passed over
-bytes_gap : (gap rest : List ℕ) → all_pass is_free gap ≡ true → bytes_from start (gap ++ rest) ≡ bytes_from start rest
-unfolding bytes_from character_step
+bytes_gap : (gap rest : List ℕ) → all_pass is_free gap ≡ true → bytes_from State.Between (gap ++ rest) ≡ bytes_from State.Between rest
+unfolding bytes_from
 bytes_gap [] rest e = refl
 bytes_gap (c ∷ cs) rest e =
     let free = and_left (is_free c) (all_pass is_free cs) e in
     rw ((free_neither c free).0, free) (bytes_gap cs rest (and_right (is_free c) (all_pass is_free cs) e))
 
 fault_gap : (gap rest : List ℕ) → all_pass is_free gap ≡ true → Faultless rest → Faultless (gap ++ rest)
-unfolding fault_from character_step
+unfolding fault_from
 fault_gap [] rest e s at = s at
 fault_gap (c ∷ cs) rest e s at =
     let free = and_left (is_free c) (all_pass is_free cs) e in
     rw ((free_neither c free).0, free) (fault_gap cs rest (and_right (is_free c) (all_pass is_free cs) e) s (at + 1))
 
 -- ---- two digits are a byte
-no_sixteen : (n : ℕ) → n < 16 → eqb n 16 ≡ false
-no_sixteen n h = ne_eqb n 16 (λ q. omega arith)
-
 module _ (c e a d : ℕ) (first : Digit c a) (second : Digit e d) (high : a < 16) (low : d < 16) where
-  first_step : character_step start c ≡ passed_of false a
-  unfolding character_step
-  first_step = rw (first.hash, first.free, first.value, no_sixteen a high)
+  first_step : character_step State.Between c ≡ Some (State.First a)
+  first_step = rw (first.hash, first.free, first.value)
 
-  second_step : character_step (passed_of false a) e ≡ whole (a * 16 + d)
-  unfolding character_step
-  second_step = rw (no_sixteen a high, second.value, no_sixteen d low)
+  second_step : character_step (State.First a) e ≡ Some (State.Byte (a * 16 + d))
+  second_step = rw second.value
 
-  bytes_pair : (rest : List ℕ) → bytes_from start (c ∷ e ∷ rest) ≡ (a * 16 + d) ∷ bytes_from start rest
+  bytes_pair : (rest : List ℕ) → bytes_from State.Between (c ∷ e ∷ rest) ≡ (a * 16 + d) ∷ bytes_from State.Between rest
   unfolding bytes_from
   bytes_pair rest = rw (first_step, second_step, bytes_whole (a * 16 + d) rest)
 
@@ -61,7 +56,7 @@ module _ (c e a d : ℕ) (first : Digit c a) (second : Digit e d) (high : a < 16
 -- a digit is no mark
 unmarked : (c d : ℕ) → Digit c d → d < 16 → (rest : List ℕ) → mark_length (c ∷ rest) ≡ 0
 unmarked c d digit small rest =
-    let other : c ≡ 239 → ⊥ = λ q. let same : 16 ≡ d = rw q at digit.value in omega arith in
+    let other : c ≡ 239 → ⊥ = λ q. none_some d (rw q at digit.value) in
     rw (ne_eqb c 239 other) (same_both (ltb (length (c ∷ rest)) 3) 0)
 
 -- ---- bytes written
@@ -70,7 +65,7 @@ module _ (gap : List ℕ) (free : all_pass is_free gap ≡ true) where
   unfolding written
   written_more b bs = rw (two_digits b)
 
-  bytes_written : (bytes : List ℕ) → all_pass is_byte bytes ≡ true → bytes_from start (written gap bytes) ≡ bytes
+  bytes_written : (bytes : List ℕ) → all_pass is_byte bytes ≡ true → bytes_from State.Between (written gap bytes) ≡ bytes
   unfolding bytes_from written
   bytes_written [] e = refl
   bytes_written (b ∷ bs) e =
@@ -101,7 +96,7 @@ module _ (gap : List ℕ) (free : all_pass is_free gap ≡ true) where
 
   -- bytes that are written with free characters after each are read back
   pub written_parses : (bytes : List ℕ) → all_pass is_byte bytes ≡ true → length (written gap bytes) ≤ most_notation → (out : List ℕ) → length bytes ≤ length out
-      → (parsed_of (written gap bytes) (length out) ≡ Parsed.Length (length bytes)) × (left_of (written gap bytes) out ≡ sets out 0 bytes)
+      → (parsed_of (written gap bytes) (length out) ≡ Ok (length bytes)) × (left_of (written gap bytes) out ≡ sets out 0 bytes)
   written_parses bytes e short out room =
       rw (le-ltb most_notation (length (written gap bytes)) short, unmarked_written bytes e, fault_written bytes e 0, bytes_written bytes e, le-ltb (length out) (length bytes) room)
       (refl, refl)

@@ -1,406 +1,332 @@
 // The notation of the papers, read: pairs of hexadecimal digits, free characters between them, and comments from # to the line's end.
 #![tactic(auto)]
 
-ghost use Rattle.std.specs.Prelude.{◌+◌, ◌≤◌, ◌<◌, ◌≡◌, length};
+ghost use Rattle.std.specs.Prelude.{◌+◌, ◌≤◌, ◌<◌, ◌≡◌, length, IfSome};
 ghost use Rattle.number_text.specs.Stored.{Stored};
-ghost use Rattle.notation.specs.Notation.{begins_notation, between_step, notation_bytes, digit_of, fault_of, found_at, is_free, is_line_end, left_of, left_past, looks_like_notation, made_of, mark_length, missing_at, most_notation, parsed_of, parsed_past, passed_of, second_step, spot_of, spot_past, character_step, stored_of, stored_to};
+ghost use Rattle.notation.specs.Notation.{after, begins_notation, between_step, character_step, comment_step, digit_of, end_fault, error_of, fault_of, is_free, is_line_end, left_of, left_past, looks_like_notation, made_of, missing_at, most_notation, notation_bytes, parsed_of, parsed_past, past_mark, second_step, spot_of, spot_past, stored_of, stored_to, Fits, StandsIn};
 
 // The longest text.
 pub const MOST_NOTATION: usize = 1048576;
 
-// Stands for no digit.
-const NONE: u8 = 16;
-
-// What is known after a character: in a comment or not, the first digit of a byte or NONE,
-// and whether the character ended a byte (its value) or was bad.
-#[derive(Clone, Copy)]
-pub struct State {
-    pub comment: bool,
-    pub high: u8,
-    pub made: bool,
-    pub value: u8,
-    pub bad: bool,
+// Where a text stands after a character: between bytes, in a comment, after the first digit of a byte or at the end of a byte, each with its value.
+#[derive(Clone, Copy, Debug, PartialEq, Eq)]
+pub enum State {
+    Between,
+    Comment,
+    First(u8),
+    Byte(u8),
 }
 
-impl State {
-    // Before the first character.
-    pub const START: State = State {
-        comment: false,
-        high: NONE,
-        made: false,
-        value: 0,
-        bad: false,
-    };
-
-    // After a character that may not stand there.
-    pub const BAD: State = State {
-        comment: false,
-        high: NONE,
-        made: false,
-        value: 0,
-        bad: true,
-    };
-}
-
-// What is wrong in a text first: no digit, or no second digit after a byte's first, by the index of what stands there instead.
-#[derive(Clone, Copy)]
+// What is wrong in a text: no digit, or no second digit after a byte's first, by the index of what stands there instead.
+#[derive(Clone, Copy, Debug, PartialEq, Eq)]
 pub enum Fault {
     NoDigit(usize),
     NoSecond(usize),
-    None,
-}
-
-// What stands at an index of a text.
-#[derive(Clone, Copy)]
-pub enum Found {
-    Byte(u8),
-    End,
 }
 
 // A line and a column of a text, both from 1.
-#[derive(Clone, Copy)]
+#[derive(Clone, Copy, Debug, PartialEq, Eq)]
 pub struct Spot {
     pub line: u64,
     pub column: u64,
 }
 
-// What a parse answers: the number of bytes stored; where a digit or a second digit is missing, and what was found there;
+// Why a text is refused: where a digit or a second digit is missing, and what was found there, which may be the end;
 // a text of more than MOST_NOTATION bytes; or a buffer too short for the bytes.
-#[derive(Clone, Copy)]
-pub enum Parsed {
-    Length(usize),
+#[derive(Clone, Copy, Debug, PartialEq, Eq)]
+pub enum ParseError {
     NoDigit(Spot, u8),
-    NoSecond(Spot, Found),
+    NoSecond(Spot, Option<u8>),
     TooLong,
     TooShort,
 }
 
-// The value of a hexadecimal digit, or NONE.
-fn digit(c: u8) -> u8
-    ensures { (result ≡ digit_of c) × (result ≤ 16) }
+// The value of a hexadecimal digit.
+fn digit(c: u8) -> Option<u8>
+    ensures value { result ≡ digit_of c }
+    ensures small { IfSome result (λ d. d < 16) }
 {
-    if c < b'0' {
-        return NONE;
+    match c {
+        b'0'..=b'9' => Some(c - b'0'),
+        b'A'..=b'F' => Some(c - b'A' + 10),
+        b'a'..=b'f' => Some(c - b'a' + 10),
+        _ => None,
     }
-    if c < 58 {
-        return c - b'0';
-    }
-    if c < b'A' {
-        return NONE;
-    }
-    if c < 71 {
-        return c - 55;
-    }
-    if c < b'a' {
-        return NONE;
-    }
-    if c < 103 {
-        return c - 87;
-    }
-    NONE
 }
 
 // A line feed or a carriage return.
 fn is_line_end(c: u8) -> bool
     ensures { result ≡ is_line_end c }
 {
-    if c == b'\n' {
-        return true;
-    }
-    c == b'\r'
+    c == b'\n' || c == b'\r'
 }
 
 // A blank, a tab, a comma or a line end.
 fn is_free(c: u8) -> bool
     ensures { result ≡ is_free c }
 {
-    if c == b' ' {
-        return true;
-    }
-    if c == b'\t' {
-        return true;
-    }
-    if c == b',' {
-        return true;
-    }
-    is_line_end(c)
+    c == b' ' || c == b'\t' || c == b',' || is_line_end(c)
 }
 
-// The number of bytes of the byte order mark at a text's start, 3 or 0.
-fn mark_length(text: &[u8]) -> usize
-    ensures { (result ≡ mark_length text.now) × (result ≤ length text.now) }
+// A text past the byte order mark with which it may start.
+fn past_mark(text: &[u8]) -> &[u8]
+    ensures { result.now ≡ past_mark text.now }
 {
-    if text.len() < 3 {
-        return 0;
+    match text {
+        [0xEF, 0xBB, 0xBF, rest @ ..] => rest,
+        _ => text,
     }
-    if text[0] != 0xEF {
-        return 0;
-    }
-    if text[1] != 0xBB {
-        return 0;
-    }
-    if text[2] != 0xBF {
-        return 0;
-    }
-    3
 }
 
 // A digit, or the # of a comment.
 fn begins_notation(c: u8) -> bool
     ensures { result ≡ begins_notation c }
 {
-    if c == b'#' {
-        return true;
-    }
-    digit(c) != NONE
+    c == b'#' || digit(c).is_some()
 }
 
 // Whether bytes look like notation and not like a sheet: past a mark, the first that is not free is a digit or a #.
+#[tactic(auto, using(crate::proofs::Laws::opens_end, crate::proofs::Laws::opens_here, crate::proofs::Laws::opens_more))]
 pub fn looks_like_notation(sheet: &[u8]) -> bool
     ensures { result ≡ looks_like_notation sheet.now }
 {
-    let mut i = mark_length(sheet);
-    while i < sheet.len() {
-        if !is_free(sheet[i]) {
-            return begins_notation(sheet[i]);
+    for &c in past_mark(sheet) {
+        if !is_free(c) {
+            return begins_notation(c);
         }
-        i += 1;
     }
     false
 }
 
-// The state after a character that ended no byte.
-fn passed(comment: bool, high: u8) -> State
-    ensures { result ≡ passed_of comment high }
+// The state after a character between bytes; none where it may not stand there.
+fn step_between(c: u8) -> Option<State>
+    ensures step { result ≡ between_step c }
+    ensures fits { IfSome result Fits }
 {
-    State {
-        comment,
-        high,
-        made: false,
-        value: 0,
-        bad: false,
-    }
-}
-
-// The state after a character between bytes. A line end ends a comment.
-fn step_between(comment: bool, c: u8) -> State
-    ensures { (result ≡ between_step comment c) × (result.high ≤ 16) }
-{
-    if comment {
-        return passed(!is_line_end(c), NONE);
-    }
     if c == b'#' {
-        return passed(true, NONE);
+        return Some(State::Comment);
     }
     if is_free(c) {
-        return passed(false, NONE);
+        return Some(State::Between);
     }
-    let d = digit(c);
-    if d == NONE {
-        return State::BAD;
-    }
-    passed(false, d)
+    digit(c).map(State::First)
 }
 
 // The state after a character that follows the first digit of a byte: only the second may stand there.
-fn step_second(high: u8, c: u8) -> State
+fn step_second(high: u8, c: u8) -> Option<State>
     requires { high < 16 }
-    ensures { (result ≡ second_step high c) × (result.high ≤ 16) }
+    ensures step { result ≡ second_step high c }
+    ensures fits { IfSome result Fits }
 {
-    let d = digit(c);
-    if d == NONE {
-        return State::BAD;
-    }
-    State {
-        comment: false,
-        high: NONE,
-        made: true,
-        value: high * 16 + d,
-        bad: false,
+    let low = digit(c)?;
+    Some(State::Byte(high * 16 + low))
+}
+
+// The state after a character in a comment, which a line end ends.
+fn step_comment(c: u8) -> State
+    ensures step { result ≡ comment_step c }
+    ensures fits { Fits result }
+{
+    if is_line_end(c) {
+        State::Between
+    } else {
+        State::Comment
     }
 }
 
-// The state after a character.
-fn step(s: State, c: u8) -> State
-    requires { s.high ≤ 16 }
-    ensures { (result ≡ character_step s c) × (result.high ≤ 16) }
-{
-    if s.high == NONE {
-        return step_between(s.comment, c);
+impl State {
+    // The state after a character; none where it may not stand there.
+    fn step(self, c: u8) -> Option<State>
+        requires { Fits self }
+        ensures step { result ≡ character_step self c }
+        ensures fits { IfSome result Fits }
+    {
+        match self {
+            State::Comment => Some(step_comment(c)),
+            State::First(high) => step_second(high, c),
+            State::Between | State::Byte(_) => step_between(c),
+        }
     }
-    step_second(s.high, c)
-}
 
-// What is missing at the index of a bad character, by the state before it.
-fn missing_at(s: State, at: usize) -> Fault
-    ensures { result ≡ missing_at s at }
-{
-    if s.high == NONE {
-        return Fault::NoDigit(at);
+    // The state after a character; after one that may not stand there it is between bytes.
+    fn after(self, c: u8) -> State
+        requires { Fits self }
+        ensures after { result ≡ after self c }
+        ensures fits { Fits result }
+    {
+        self.step(c).unwrap_or(State::Between)
     }
-    Fault::NoSecond(at)
+
+    // What is missing at the index of a character that may not stand there.
+    fn missing_at(self, at: usize) -> Fault
+        ensures { result ≡ missing_at self at }
+    {
+        match self {
+            State::First(_) => Fault::NoSecond(at),
+            _ => Fault::NoDigit(at),
+        }
+    }
+
+    // What is missing where a text ends.
+    fn missing_at_end(self, at: usize) -> Option<Fault>
+        ensures { result ≡ end_fault self at }
+    {
+        match self {
+            State::First(_) => Some(Fault::NoSecond(at)),
+            _ => None,
+        }
+    }
 }
 
 // The first fault of a text.
-fn find_fault(text: &[u8]) -> Fault
+#[tactic(auto, using(crate::proofs::Laws::fault_end, crate::proofs::Laws::fault_here, crate::proofs::Laws::fault_more))]
+fn find_fault(text: &[u8]) -> Option<Fault>
     ensures { result ≡ fault_of text.now }
 {
-    let mut state = State::START;
-    let mut i: usize = 0;
-    while i < text.len() {
-        let next = step(state, text[i]);
-        if next.bad {
-            return missing_at(state, i);
-        }
+    let mut state = State::Between;
+    for (i, &c) in text.iter().enumerate() {
+        let Some(next) = state.step(c) else {
+            return Some(state.missing_at(i));
+        };
         state = next;
-        i += 1;
     }
-    if state.high == NONE {
-        return Fault::None;
-    }
-    Fault::NoSecond(i)
+    state.missing_at_end(text.len())
 }
 
-// What stands at an index of a text, or its end.
-fn found_at(text: &[u8], at: usize) -> Found
-    ensures { result ≡ found_at text.now at }
-{
-    if at < text.len() {
-        return Found::Byte(text[at]);
-    }
-    Found::End
-}
-
-// A count, and one more where the state has a byte.
+// A count, and one more where a byte has ended.
 fn count_after(count: usize, state: State) -> usize
     requires { count ≤ most_notation }
     ensures { (result ≡ count + length (made_of state)) × (result ≤ count + 1) }
 {
-    if state.made {
-        return count + 1;
+    match state {
+        State::Byte(_) => count + 1,
+        _ => count,
     }
-    count
 }
 
 // The number of bytes of a text.
+#[tactic(auto, using(crate::proofs::Laws::bytes_end, crate::proofs::Laws::length_more))]
 fn count_bytes(text: &[u8]) -> usize
     requires { length text.now ≤ most_notation }
     ensures { result ≡ length (notation_bytes text.now) }
 {
-    let mut state = State::START;
-    let mut count: usize = 0;
-    let mut i: usize = 0;
-    while i < text.len() {
-        state = step(state, text[i]);
+    let mut state = State::Between;
+    let mut count = 0;
+    for &c in text {
+        state = state.after(c);
         count = count_after(count, state);
-        i += 1;
     }
     count
 }
 
-// The byte that the state has, if it has one, at an index; the index after it.
+// The byte that has ended, if one has, at an index; the index after it.
 fn put_made(out: &mut [u8], at: usize, state: State) -> usize
     requires { at + length (made_of state) ≤ length out.old }
     ensures { Stored (made_of state) out.old at out.new result }
 {
-    if state.made {
-        out[at] = state.value;
-        return at + 1;
+    match state {
+        State::Byte(value) => {
+            out[at] = value;
+            at + 1
+        }
+        _ => at,
     }
-    at
 }
 
 // The bytes of a text, from the buffer's start on; the index after them.
+#[tactic(auto, using(crate::proofs::Laws::bytes_end, crate::proofs::Laws::bytes_more, crate::proofs::Laws::length_more))]
 fn put_bytes(text: &[u8], out: &mut [u8]) -> usize
     requires { length (notation_bytes text.now) ≤ length out.old }
     ensures { Stored (notation_bytes text.now) out.old 0 out.new result }
 {
-    let mut state = State::START;
-    let mut end: usize = 0;
-    let mut i: usize = 0;
-    while i < text.len() {
-        state = step(state, text[i]);
+    let mut state = State::Between;
+    let mut end = 0;
+    for &c in text {
+        state = state.after(c);
         end = put_made(out, end, state);
-        i += 1;
     }
     end
 }
 
-// The spot after a character at a spot, by the character before it. The LF after a CR is part of one line end.
-fn spot_past(spot: Spot, previous: u8, c: u8) -> Spot
-    requires { (spot.line ≤ most_notation) × (spot.column ≤ most_notation) }
-    ensures { (result ≡ spot_past spot previous c) × (result.line ≤ spot.line + 1) × (result.column ≤ spot.column + 1) }
-{
-    if c == b'\r' {
-        return Spot {
-            line: spot.line + 1,
-            column: 1,
-        };
-    }
-    if c == b'\n' {
-        if previous == b'\r' {
-            return spot;
+impl Spot {
+    // The spot after a character here, by the character before it. The LF after a CR is part of one line end.
+    fn past(self, previous: u8, c: u8) -> Spot
+        requires { (self.line ≤ most_notation) × (self.column ≤ most_notation) }
+        ensures { (result ≡ spot_past self previous c) × (result.line ≤ self.line + 1) × (result.column ≤ self.column + 1) }
+    {
+        match c {
+            b'\n' if previous == b'\r' => self,
+            b'\n' | b'\r' => Spot {
+                line: self.line + 1,
+                column: 1,
+            },
+            _ => Spot {
+                line: self.line,
+                column: self.column + 1,
+            },
         }
-        return Spot {
-            line: spot.line + 1,
-            column: 1,
-        };
-    }
-    Spot {
-        line: spot.line,
-        column: spot.column + 1,
     }
 }
 
 // The line and the column right after a text.
+#[tactic(auto, using(crate::proofs::Laws::spot_end, crate::proofs::Laws::spot_more))]
 fn spot_after(text: &[u8]) -> Spot
     requires { length text.now ≤ most_notation }
     ensures { result ≡ spot_of text.now }
 {
     let mut spot = Spot { line: 1, column: 1 };
-    let mut previous: u8 = 0;
-    let mut i: usize = 0;
-    while i < text.len() {
-        let c = text[i];
-        spot = spot_past(spot, previous, c);
+    let mut previous = 0;
+    for &c in text {
+        spot = spot.past(previous, c);
         previous = c;
-        i += 1;
     }
     spot
 }
 
+// A fault of a text, by line and column and with what was found.
+fn error_at(text: &[u8], fault: Fault) -> ParseError
+    requires short { length text.now ≤ most_notation }
+    requires stands { StandsIn (length text.now) fault }
+    ensures { result ≡ error_of text.now fault }
+{
+    match fault {
+        Fault::NoDigit(at) => ParseError::NoDigit(spot_after(&text[..at]), text[at]),
+        Fault::NoSecond(at) => {
+            ParseError::NoSecond(spot_after(&text[..at]), text.get(at).copied())
+        }
+    }
+}
+
 // The bytes of a text that has no fault.
-fn store(text: &[u8], out: &mut [u8]) -> Parsed
+fn store(text: &[u8], out: &mut [u8]) -> Result<usize, ParseError>
     requires { length text.now ≤ most_notation }
     ensures { (result ≡ stored_of text.now (length out.old)) × (out.new ≡ stored_to text.now out.old) }
 {
     if out.len() < count_bytes(text) {
-        return Parsed::TooShort;
+        return Err(ParseError::TooShort);
     }
-    Parsed::Length(put_bytes(text, out))
+    Ok(put_bytes(text, out))
 }
 
 // The parse of a text past its mark.
-fn parse_past(text: &[u8], out: &mut [u8]) -> Parsed
+#[tactic(auto, using(crate::proofs::Exits::fault_stands))]
+fn parse_past(text: &[u8], out: &mut [u8]) -> Result<usize, ParseError>
     requires { length text.now ≤ most_notation }
     ensures { (result ≡ parsed_past text.now (length out.old)) × (out.new ≡ left_past text.now out.old) }
 {
-    let fault = find_fault(text);
-    match fault {
-        Fault::NoDigit(at) => Parsed::NoDigit(spot_after(&text[..at]), text[at]),
-        Fault::NoSecond(at) => Parsed::NoSecond(spot_after(&text[..at]), found_at(text, at)),
-        Fault::None => store(text, out),
+    match find_fault(text) {
+        Some(fault) => Err(error_at(text, fault)),
+        None => store(text, out),
     }
 }
 
 // The bytes of a text, stored from the buffer's start on, and how many they are; or what is wrong, and the buffer as it was.
 // A byte order mark at the start is skipped.
-pub fn parse(text: &[u8], out: &mut [u8]) -> Parsed
+pub fn parse(text: &[u8], out: &mut [u8]) -> Result<usize, ParseError>
     ensures { (result ≡ parsed_of text.now (length out.old)) × (out.new ≡ left_of text.now out.old) }
 {
     if MOST_NOTATION < text.len() {
-        return Parsed::TooLong;
+        return Err(ParseError::TooLong);
     }
-    let start = mark_length(text);
-    parse_past(&text[start..], out)
+    parse_past(past_mark(text), out)
 }

@@ -1,32 +1,24 @@
 // Whether a sheet is a text in the papers' notation by mistake, for programs that take bytes.
 #![tactic(auto)]
 
-ghost use Rattle.std.specs.Prelude.{true, ◌≡◌};
-ghost use Rattle.notation_mistake.specs.Mistake.{is_notation, is_whole, whole_by};
+ghost use Rattle.std.specs.Prelude.{◌≡◌};
+ghost use Rattle.notation_mistake.specs.Mistake.{is_notation, is_whole};
 
-use event::{Cursor, Reading};
-
-// Whether what comes after the last event is the sheet's end.
-fn is_end(reading: Reading) -> bool
-    ensures { result ≡ whole_by reading (λ next. true) }
-{
-    if let Reading::Refused(_) = reading {
-        return false;
-    }
-    true
-}
+use event::Cursor;
 
 // Whether a sheet's bytes are events to its end.
+#[tactic(auto, using(crate::proofs::Whole::starts, crate::proofs::Whole::further, crate::proofs::Whole::nearer, crate::proofs::Whole::refused))]
 fn is_whole(sheet: &[u8]) -> bool
     ensures { result ≡ is_whole sheet.now }
 {
-    let mut at: usize = 0;
+    let mut at = 0;
+    // No iterator, which would not tell the end from bytes that are refused.
     loop {
-        let reading = decode::read_event(sheet, Cursor { at });
-        let Reading::Event { next, .. } = reading else {
-            return is_end(reading);
-        };
-        at = next.at;
+        match decode::read_event(sheet, Cursor { at }) {
+            Ok(Some((_, next))) => at = next.at,
+            Ok(None) => return true,
+            Err(_) => return false,
+        }
     }
 }
 
@@ -34,8 +26,5 @@ fn is_whole(sheet: &[u8]) -> bool
 pub fn is_notation(sheet: &[u8]) -> bool
     ensures { result ≡ is_notation sheet.now }
 {
-    if notation::looks_like_notation(sheet) {
-        return !is_whole(sheet);
-    }
-    false
+    notation::looks_like_notation(sheet) && !is_whole(sheet)
 }

@@ -1,10 +1,9 @@
 -- The message of a parse that failed: where, what was expected and what was found there. Not in document 01: the contract of notation_text::show_parse.
-use Rattle.std.specs.Prelude.{ℕ, cond, List, [], ◌∷◌, ◌++◌, eqb, ltb}
+use Rattle.std.specs.Prelude.{ℕ, cond, List, [], ◌∷◌, ◌++◌, eqb, ltb, Option, Some, None, Result, Ok, Err}
 use Rattle.printout.specs.Text.{ascii}
 use Rattle.printout.specs.Print.{decimal, hex_in}
 use Rattle.notation.specs.Notation.{is_line_end}
-use Rattle.notation.specs.declared.Found.{Found}
-use Rattle.notation.specs.declared.Parsed.{Parsed}
+use Rattle.notation.specs.declared.ParseError.{ParseError}
 use Rattle.notation.specs.declared.Spot.{Spot}
 
 -- the longest message: a line and a column of 20 digits each, a second digit expected and a byte of a sheet found
@@ -32,14 +31,14 @@ character_line c =
     (cond (eqb c 9) (ascii "a tab\n")
     (cond (eqb c 44) (ascii "a comma\n") (cond (is_line_end c) (ascii "a line end\n") (cond (eqb c 35) (ascii "a comment\n") (other_line c)))))
 
-abbrev pub found_line : Found → List ℕ
-found_line (Found.Byte c) = character_line c
-found_line Found.End = ascii "the end of the text\n"
+abbrev pub found_line : Option ℕ → List ℕ
+found_line (Some c) = character_line c
+found_line None = ascii "the end of the text\n"
 
 -- ---- the line of a parse that failed; one that did not has none
-unfoldable pub parse_line : Parsed → List ℕ
-parse_line (Parsed.Length n) = []
-parse_line (Parsed.NoDigit s c) = place_text s ++ (ascii " expected a hexadecimal digit, found " ++ character_line c)
-parse_line (Parsed.NoSecond s found) = place_text s ++ (ascii " expected the second digit of a byte, found " ++ found_line found)
-parse_line Parsed.TooLong = ascii "the text is longer than 1048576 bytes\n"
-parse_line Parsed.TooShort = ascii "the bytes do not fit the buffer\n"
+unfoldable pub parse_line : Result ℕ ParseError → List ℕ
+parse_line (Ok n) = []
+parse_line (Err (ParseError.NoDigit s c)) = place_text s ++ (ascii " expected a hexadecimal digit, found " ++ character_line c)
+parse_line (Err (ParseError.NoSecond s found)) = place_text s ++ (ascii " expected the second digit of a byte, found " ++ found_line found)
+parse_line (Err ParseError.TooLong) = ascii "the text is longer than 1048576 bytes\n"
+parse_line (Err ParseError.TooShort) = ascii "the bytes do not fit the buffer\n"

@@ -5,10 +5,10 @@
 ghost use Rattle.std.specs.Prelude.{◌≤◌, ◌≡◌, length};
 ghost use Rattle.trace_text.specs.Steps.{most_end};
 
-use event::{Cursor, Event, Reading};
+use event::{Cursor, Event, Refusal};
 use limits::MOST_SHEET;
-use notation::{MOST_NOTATION, Parsed};
-use standard_io::{Input, has_argument, is_word};
+use notation::{MOST_NOTATION, ParseError};
+use standard_io::{has_argument, is_word};
 use std::io::Error;
 use trace_text::Tracing;
 use trace_text::summary::put_end;
@@ -77,17 +77,22 @@ fn tell_first(rt: &HostRuntime, line: &[u8], count: usize)
     tell(rt, &line[..count]);
 }
 
+// Tells why a text is refused.
+fn tell_mistake(rt: &HostRuntime, error: ParseError) {
+    let mut line = line_buffer();
+    let end = notation_text::show_parse(&mut line, Err(error));
+    tell_first(rt, &line, end);
+}
+
 // The bytes of a text, or what is wrong with it.
 fn print_bytes(rt: &HostRuntime, text: &[u8]) {
     let mut bytes = bytes_buffer();
-    let parsed = notation::parse(text, &mut bytes);
-    if let Parsed::Length(count) = parsed {
-        print_first(rt, &bytes, count);
-        return;
+    match notation::parse(text, &mut bytes) {
+        Ok(count) => {
+            print_first(rt, &bytes, count);
+        }
+        Err(error) => tell_mistake(rt, error),
     }
-    let mut line = line_buffer();
-    let end = notation_text::show_parse(&mut line, parsed);
-    tell_first(rt, &line, end);
 }
 
 // The line of an event; false where it could not be written.
@@ -98,35 +103,32 @@ fn print_event(rt: &HostRuntime, count: u64, event: Event) -> bool {
 }
 
 // The line at bytes that are no event.
-fn print_refusal(rt: &HostRuntime, count: u64, byte: u64, refusal: u8) {
+fn print_refusal(rt: &HostRuntime, count: u64, byte: u64, refusal: Refusal) {
     let mut line = line_buffer();
-    let end = event_text::show_refusal(&mut line, count, byte, refusal);
+    let end = event_text::show_refusal(&mut line, count, byte, refusal.number());
     print_first(rt, &line, end);
-}
-
-// What ends a sheet: nothing at its end, and then it is whole; or a line at bytes that are no event.
-fn print_end(rt: &HostRuntime, count: u64, at: usize, reading: Reading) -> bool {
-    if let Reading::Refused(refusal) = reading {
-        print_refusal(rt, count, at as u64, refusal);
-        return false;
-    }
-    true
 }
 
 // A line an event, up to the sheet's end or to bytes that are no event; false at those. A line that could not be written ends it, too.
 fn print_events(rt: &HostRuntime, sheet: &[u8]) -> bool {
-    let mut at: usize = 0;
-    let mut count: u64 = 0;
+    let mut at = 0;
+    let mut count = 0;
+    // No iterator, which would not tell the end from bytes that are refused.
     loop {
-        let reading = decode::read_event(sheet, Cursor { at });
-        let Reading::Event { event, next } = reading else {
-            return print_end(rt, count, at, reading);
-        };
-        if !print_event(rt, count, event) {
-            return true;
+        match decode::read_event(sheet, Cursor { at }) {
+            Ok(Some((event, next))) => {
+                if !print_event(rt, count, event) {
+                    return true;
+                }
+                at = next.at;
+                count += 1;
+            }
+            Ok(None) => return true,
+            Err(refusal) => {
+                print_refusal(rt, count, at as u64, refusal);
+                return false;
+            }
         }
-        at = next.at;
-        count += 1;
     }
 }
 
@@ -162,53 +164,42 @@ fn print_trace(rt: &HostRuntime, sheet: &[u8]) -> bool {
 
 // Whether bytes are notation by mistake, by their look, which is told here.
 fn is_notation(rt: &HostRuntime, sheet: &[u8]) -> bool {
-    if notation::looks_like_notation(sheet) {
+    let looks = notation::looks_like_notation(sheet);
+    if looks {
         tell(
             rt,
             b"this looks like notation: give it the bytes that sheet makes of that\n",
         );
-        return true;
     }
-    false
+    looks
 }
 
 // Whether a sheet is too long, which is told here; notation by mistake is told as such.
 fn is_too_long(rt: &HostRuntime, sheet: &[u8]) -> bool {
-    if sheet.len() <= MOST_SHEET {
-        return false;
+    let too_long = MOST_SHEET < sheet.len();
+    if too_long && !is_notation(rt, sheet) {
+        tell(rt, b"the sheet is longer than 65536 bytes\n");
     }
-    if is_notation(rt, sheet) {
-        return true;
-    }
-    tell(rt, b"the sheet is longer than 65536 bytes\n");
-    true
+    too_long
 }
 
 // The lines of a sheet, and a message where it has bytes that are no event.
 fn show(rt: &HostRuntime, sheet: &[u8]) {
-    if is_too_long(rt, sheet) {
+    if is_too_long(rt, sheet) || print_events(rt, sheet) || is_notation(rt, sheet) {
         return;
     }
-    if print_events(rt, sheet) {
-        return;
-    }
-    if !is_notation(rt, sheet) {
-        tell(rt, b"the sheet has bytes that are no event\n");
-    }
+    tell(rt, b"the sheet has bytes that are no event\n");
 }
 
 // The trace of a sheet's run. Bytes that are no event are an answer of the run, as in linebook, and no fault unless they are notation.
 fn trace(rt: &HostRuntime, sheet: &[u8]) {
-    if is_too_long(rt, sheet) {
-        return;
-    }
-    if !print_trace(rt, sheet) {
+    if !is_too_long(rt, sheet) && !print_trace(rt, sheet) {
         is_notation(rt, sheet);
     }
 }
 
 // What is to be done with standard input.
-#[derive(Clone, Copy)]
+#[derive(Clone, Copy, Debug, PartialEq, Eq)]
 enum Task {
     Bytes,
     Show,
@@ -233,8 +224,8 @@ fn work_on(rt: &HostRuntime, task: Task, space: &[u8], count: usize)
 fn work(rt: &HostRuntime, task: Task) {
     let mut space = text_buffer();
     match standard_io::read_input(rt, &mut space) {
-        Input::Length(count) => work_on(rt, task, &space, count),
-        Input::Failed(error) => tell_failure(rt, b"sheet: cannot read standard input", &error),
+        Ok(count) => work_on(rt, task, &space, count),
+        Err(error) => tell_failure(rt, b"sheet: cannot read standard input", &error),
     }
 }
 
@@ -243,39 +234,34 @@ fn has_stack(rt: &HostRuntime) -> bool {
     standard_io::has_stack(rt, &mut rt.stderr(), b"sheet", NEEDED_STACK)
 }
 
+// Does it where there is stack enough.
+fn start(rt: &HostRuntime, task: Task) {
+    if has_stack(rt) {
+        work(rt, task);
+    }
+}
+
 // What the one argument asks for; false where it is no word that is known.
 fn is_done(rt: &HostRuntime) -> bool {
     if is_word(rt, b"show") {
-        if has_stack(rt) {
-            work(rt, Task::Show);
-        }
-        return true;
+        start(rt, Task::Show);
+    } else if is_word(rt, b"trace") {
+        start(rt, Task::Trace);
+    } else if is_word(rt, b"version") {
+        print(rt, &version::line());
+    } else {
+        return false;
     }
-    if is_word(rt, b"trace") {
-        if has_stack(rt) {
-            work(rt, Task::Trace);
-        }
-        return true;
-    }
-    if is_word(rt, b"version") {
-        let line = version::line();
-        print(rt, &line);
-        return true;
-    }
-    false
+    true
 }
 
 fn main(rt: HostRuntime) {
     if !has_argument(&rt, 1) {
-        if has_stack(&rt) {
-            work(&rt, Task::Bytes);
-        }
+        start(&rt, Task::Bytes);
         return;
     }
-    if !has_argument(&rt, 2) {
-        if is_done(&rt) {
-            return;
-        }
+    if !has_argument(&rt, 2) && is_done(&rt) {
+        return;
     }
     tell(
         &rt,

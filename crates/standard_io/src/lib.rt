@@ -14,13 +14,6 @@ use std::io::{Error, ErrorKind, Read, Write};
 use std::time::{Clock, Duration};
 use std::{io, thread};
 
-// What was read: so many bytes, up to the input's end or the buffer's; or a read failed, and the error says why.
-#[derive(Drop)]
-pub enum Input {
-    Length(usize),
-    Failed(Error),
-}
-
 // How often a call is made again at most: two years of waiting, since a loop must end.
 const MOST_TRIES: u64 = 68719476736;
 
@@ -52,10 +45,7 @@ fn limit_in(text: &str) -> Option<u64> {
 // The same of an open file, read from its start.
 fn limit_of<C: Clock, R: Read>(clock: &C, file: &mut R) -> Option<u64> {
     let mut space = [0; 4096];
-    let input = read_file(clock, file, &mut space);
-    let Input::Length(count) = input else {
-        return None;
-    };
+    let count = read_file(clock, file, &mut space).ok()?;
     let text = str::from_utf8(&space[..count]).ok()?;
     limit_in(text)
 }
@@ -105,40 +95,38 @@ pub fn has_stack<R: Files + Clock, W: Write>(
     ensures { result ≡ true → Keeps (W.contents messages.old) (W.contents messages.new) }
 {
     let limit = stack_limit(rt) / 1024;
-    if needed <= limit {
-        return true;
+    let enough = needed <= limit;
+    if !enough {
+        let _ = write_needed(rt, messages, name, needed, limit);
     }
-    let _ = write_needed(rt, messages, name, needed, limit);
-    false
+    enough
 }
 
-// Reads an open file to its end, or as much of it as the buffer holds.
-pub fn read_file<C: Clock, R: Read>(clock: &C, file: &mut R, space: &mut [u8]) -> Input
+// Reads an open file to its end, or as much of it as the buffer holds, and answers how many bytes that are; or a read failed.
+pub fn read_file<C: Clock, R: Read>(clock: &C, file: &mut R, space: &mut [u8]) -> io::Result<usize>
     ensures in_bounds { within result (length space.new) ≡ true }
     ensures bytes { Reads (R.remaining file.old) (R.remaining file.new) result space.new }
 {
     let mut done: usize = 0;
     let mut tries = MOST_TRIES;
+    // No method of std's, which say little of the buffer after an error.
     while done < space.len() {
         match file.read(&mut space[done..]) {
-            Ok(0) => return Input::Length(done),
+            Ok(0) => return Ok(done),
             Ok(more) => done += more,
             Err(error) => {
-                if tries == 0 {
-                    return Input::Failed(error);
-                }
-                if !is_passing(clock, &error) {
-                    return Input::Failed(error);
+                if tries == 0 || !is_passing(clock, &error) {
+                    return Err(error);
                 }
                 tries -= 1;
             }
         }
     }
-    Input::Length(done)
+    Ok(done)
 }
 
-// Reads standard input to its end, or as much of it as the buffer holds.
-pub fn read_input<R: io::Input + Clock>(rt: &R, space: &mut [u8]) -> Input
+// The same of standard input.
+pub fn read_input<R: io::Input + Clock>(rt: &R, space: &mut [u8]) -> io::Result<usize>
     ensures { within result (length space.new) ≡ true }
 {
     let mut file = rt.reader();
@@ -152,15 +140,13 @@ pub fn write_text<C: Clock, W: Write>(clock: &C, file: &mut W, text: &[u8]) -> i
 {
     let mut written: usize = 0;
     let mut tries = MOST_TRIES;
+    // No method of std's, which say little of what was written before an error.
     while written < text.len() {
         match file.write(&text[written..]) {
             Ok(0) => return Err(Error::from(ErrorKind::WriteZero)),
             Ok(more) => written += more,
             Err(error) => {
-                if tries == 0 {
-                    return Err(error);
-                }
-                if !is_passing(clock, &error) {
+                if tries == 0 || !is_passing(clock, &error) {
                     return Err(error);
                 }
                 tries -= 1;
@@ -204,11 +190,7 @@ fn write_failure<C: Clock, W: Write>(
 // Whether the program has an argument at this place; its own name stands at 0.
 pub fn has_argument(env: &impl Env, place: usize) -> bool {
     let mut space = [];
-    match env.arg(place, &mut space) {
-        Ok(_) => true,
-        Err(FillError::TooLong) => true,
-        Err(FillError::NotPresent) => false,
-    }
+    !matches!(env.arg(place, &mut space), Err(FillError::NotPresent))
 }
 
 // Whether the program's first argument is this word, of at most 16 bytes.

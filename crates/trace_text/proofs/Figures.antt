@@ -1,4 +1,5 @@
 -- A line of a trace computed, and what a reader takes from a row: a letter for each lane, and a phase from each letter.
+use Rattle.std.specs.Prelude.{Some}
 use Prim.Native.Nat.{ℕ, ◌≤◌}
 use mathlib.Core.Path.{◌≡◌, refl, sym, ap, ◌∙◌}
 use mathlib.Core.Bool.{cond}
@@ -9,7 +10,6 @@ use lib.ListN.{length, length-map, take}
 use lib.Seq.{length-take-le}
 use Rattle.limits.specs.Limits.{most_lanes}
 use Rattle.view.specs.View.{place, plain_view}
-use Rattle.waitlist.specs.declared.Wakes.{Wakes}
 use Rattle.line.specs.Line.{Shaped, lane, on, phase_number}
 use Rattle.line.specs.declared.Line.{Line}
 use Rattle.line.specs.declared.Phase.{Phase}
@@ -34,7 +34,7 @@ taken =
       flag = 1 ∷ 1 ∷ 0 ∷ [];
     }
 
-pub take_line : trace_line 5 (event_words (Event.Take 2 1)) (Answer.Region (place 0) 1 (Wakes.Lane 0)) taken
+pub take_line : trace_line 5 (event_words (Event.Take 2 1)) (Answer.Region (place 0) 1 (Some 0)) taken
     ≡ ascii "5     take    lane 2 count 1                   region 0 1 wakes 0                    !wW  pointer 1      size 0\n"
 unfolding event_words answer_words joined decimal_in
 take_line = refl

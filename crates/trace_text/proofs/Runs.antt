@@ -1,4 +1,5 @@
 -- A trace shows the answers and the states of the run, and its steps one after the other print it.
+use Rattle.std.proofs.Common.{Some, None, Ok, Err}
 use Prim.Native.Nat.{ℕ, zero, suc, ◌+◌, ◌≤◌, ◌<◌}
 use mathlib.Core.Path.{◌≡◌, refl, sym, ap, ◌∙◌}
 use mathlib.Core.Bool.{true, cond}
@@ -10,8 +11,8 @@ use lib.Seq.{take-nil}
 use Rattle.lists.proofs.Tests.{by_test}
 use Rattle.line.specs.Line.{unopened}
 use Rattle.line.specs.Sound.{sound}
-use Rattle.event.specs.ReadWrite.{read_at}
-use Rattle.event.specs.declared.Reading.{Reading}
+use Rattle.event.specs.ReadWrite.{Reading, event_read, read_at}
+use Rattle.event.specs.Refusal.{number_of}
 use Rattle.steps.specs.Meets.{state_of}
 use Rattle.steps.specs.State.{State, fresh}
 use Rattle.steps.specs.Step.{call_event}
@@ -35,14 +36,14 @@ record Shows (x : State) (seen : List Seen) (r : Ran) : Type 0 where
 
 shows_reading : (x : State) (at : ℕ) (later : State → ℕ → List Seen) (rest : State → ℕ → Ran) → ((y : State) (next : ℕ) → Shows y (later y next) (rest y next))
     → (reading : Reading) → Shows x (on_read x at reading later) (on_reading x reading rest)
-shows_reading x at later rest same (Reading.Event e next) =
+shows_reading x at later rest same (Ok (Some (e, next))) =
     let r = call_event x e in
     let on = same r.after next.at in
     by_test (ends_run r.answer)
     (λ t. record { answers = rw t; after = rw t })
     (λ f. record { answers = rw f (ap (λ (as' : List Answer). r.answer ∷ as') on.answers); after = rw f on.after })
-shows_reading x at later rest same Reading.End = record { answers = refl; after = refl }
-shows_reading x at later rest same (Reading.Refused k) = record { answers = refl; after = refl }
+shows_reading x at later rest same (Ok None) = record { answers = refl; after = refl }
+shows_reading x at later rest same (Err k) = record { answers = refl; after = refl }
 
 shows_on : (most : ℕ) (x : State) (sheet : List ℕ) (at : ℕ) → Shows x (seen_on most x sheet at) (run_on most x sheet at)
 unfolding seen_on run_on
@@ -52,14 +53,14 @@ shows_on (suc most) x sheet at =
 
 first_read : (x : State) (at k : ℕ) (later fewer : State → ℕ → List Seen) → ((y : State) (next : ℕ) → take k (later y next) ≡ fewer y next)
     → (reading : Reading) → take (suc k) (on_read x at reading later) ≡ on_read x at reading fewer
-first_read x at k later fewer same (Reading.Event e next) =
+first_read x at k later fewer same (Ok (Some (e, next))) =
     let r = call_event x e in
-    let one = seen_by r.after at (Reading.Event e next) r.answer in
+    let one = seen_by r.after at (event_read e next) r.answer in
     by_test (ends_run r.answer)
     (λ t. rw t (ap (λ (ss : List Seen). one ∷ ss) (take-nil k)))
     (λ f. rw f (ap (λ (ss : List Seen). one ∷ ss) (same r.after next.at)))
-first_read x at k later fewer same Reading.End = refl
-first_read x at k later fewer same (Reading.Refused j) = ap (λ (ss : List Seen). seen_by x at (Reading.Refused j) (Answer.Refused j) ∷ ss) (take-nil k)
+first_read x at k later fewer same (Ok None) = refl
+first_read x at k later fewer same (Err j) = ap (λ (ss : List Seen). seen_by x at (Err j) (Answer.Refused (number_of j)) ∷ ss) (take-nil k)
 
 -- the events seen in a shorter run are the first of those seen in a longer one
 first_seen : (k n : ℕ) → k ≤ n → (x : State) (sheet : List ℕ) (at : ℕ) → take k (seen_on n x sheet at) ≡ seen_on k x sheet at
@@ -98,19 +99,19 @@ step_reading : (from : Tracing) (book : List ℕ) (rest : Tracing → List ℕ �
     → (reading : Reading) → (let s = stepped_by from book reading in s.text ++ cond s.more (rest s.next s.book) (end_text s.next.line (count_in s.next)))
     ≡ left_text from.number from.counts (state_of from.line book) (on_read (state_of from.line book) from.at reading later)
 unfolding trace_lines
-step_reading from book rest later same (Reading.Event e next) =
+step_reading from book rest later same (Ok (Some (e, next))) =
     let x = state_of from.line book in
     let r = call_event x e in
-    let line = trace_line from.number (read_words from.at (Reading.Event e next)) r.answer r.after.line in
+    let line = trace_line from.number (read_words from.at (event_read e next)) r.answer r.after.line in
     let on = onwards from r.answer r.after.line next.at in
     let numbered : from.number + 1 ≡ suc from.number = omega arith in
     let left = same on r.after.book ∙ ap (λ (n : ℕ). left_text n on.counts r.after (later r.after next.at)) numbered in
     by_test (ends_run r.answer)
     (λ t. rw t (last_line line _))
     (λ f. rw f (ap (λ (text : List ℕ). line ++ text) left ∙ sym (append_assoc line _ _)))
-step_reading from book rest later same Reading.End = refl
-step_reading from book rest later same (Reading.Refused k) =
-    last_line (trace_line from.number (read_words from.at (Reading.Refused k)) (Answer.Refused k) from.line) _
+step_reading from book rest later same (Ok None) = refl
+step_reading from book rest later same (Err k) =
+    last_line (trace_line from.number (read_words from.at (Err k)) (Answer.Refused (number_of k)) from.line) _
 
 steps_on : (most : ℕ) (from : Tracing) (book sheet : List ℕ)
     → steps_text most from book sheet ≡ left_text from.number from.counts (state_of from.line book) (seen_on most (state_of from.line book) sheet from.at)

@@ -10,10 +10,9 @@ use borrow.Author.Tests.{le-leb, leb-true}
 use Rattle.lists.specs.Lists.{all_pass}
 use Rattle.lists.proofs.Counts.{all_get_d, all_mono, all_set}
 use Rattle.lists.proofs.Tests.{clash}
-use Rattle.event.specs.ReadWrite.{read_at}
+use Rattle.event.specs.ReadWrite.{event_read, read_at}
 use Rattle.event.specs.declared.Cursor.{Cursor}
 use Rattle.event.specs.declared.Event.{Event}
-use Rattle.event.specs.declared.Reading.{Reading}
 use Rattle.event.proofs.Lengths.{reads}
 use Rattle.steps.specs.Meets.{state_of}
 use Rattle.steps.specs.Step.{call_event}
@@ -31,11 +30,11 @@ counts_on a counts n all =
     all_set (λ (k : ℕ). leb k (n + 1)) counts (refusal_of a) (get_or counts (refusal_of a) 0 + 1) more (le-leb (get_or counts (refusal_of a) 0 + 1) (n + 1) (omega (arith, one)))
 
 -- after an event that was read
-pub event_goes_on : (from : Tracing) (sheet : List ℕ) (book : List ℕ) (e : Event) (next : Cursor) (r : Traced) → Within from sheet → read_at sheet from.at ≡ Reading.Event e next
-    → r.next ≡ (stepped_by from book (Reading.Event e next)).next → GoesOn from sheet r
+pub event_goes_on : (from : Tracing) (sheet : List ℕ) (book : List ℕ) (e : Event) (next : Cursor) (r : Traced) → Within from sheet → read_at sheet from.at ≡ event_read e next
+    → r.next ≡ (stepped_by from book (event_read e next)).next → GoesOn from sheet r
 event_goes_on from sheet book e next r w read is =
     let moved = reads sheet from.at e next read in
-    let on : Within (stepped_by from book (Reading.Event e next)).next sheet =
+    let on : Within (stepped_by from book (event_read e next)).next sheet =
     record {
       numbered = omega (arith, w.numbered, moved.longer);
       inside = moved.within;

@@ -1,11 +1,11 @@
 -- The steps in which a trace is printed, an event each: what one stores, and where it leaves the run. That the steps together print the trace: trace_text/Runs: steps_print.
-use Rattle.std.specs.Prelude.{ℕ, zero, suc, ◌+◌, ◌*◌, ◌≤◌, ◌<◌, Bool, true, false, cond, not, List, [], ◌++◌, ◌≡◌, leb, get_or, length, replicate, set}
+use Rattle.std.specs.Prelude.{ℕ, zero, suc, ◌+◌, ◌*◌, ◌≤◌, ◌<◌, Bool, true, false, cond, not, List, [], ◌++◌, ◌≡◌, leb, get_or, length, replicate, set, Some, None, Ok, Err}
 use Rattle.limits.specs.Limits.{most_lanes}
 use Rattle.lists.specs.Lists.{all_pass}
 use Rattle.line.specs.Line.{unopened}
 use Rattle.line.specs.declared.Line.{Line}
-use Rattle.event.specs.ReadWrite.{read_at}
-use Rattle.event.specs.declared.Reading.{Reading}
+use Rattle.event.specs.ReadWrite.{Reading, event_read, read_at}
+use Rattle.event.specs.Refusal.{number_of}
 use Rattle.steps.specs.Meets.{state_of}
 use Rattle.steps.specs.Step.{call_event}
 use Rattle.steps.specs.declared.Answer.{Answer}
@@ -40,19 +40,19 @@ pub record Stepped : Type 0 where
   pub more : Bool
 
 abbrev pub stepped_by : Tracing → List ℕ → Reading → Stepped
-stepped_by from book (Reading.Event e next) =
+stepped_by from book (Ok (Some (e, next))) =
     let r = call_event (state_of from.line book) e in
     record {
-      text = trace_line from.number (read_words from.at (Reading.Event e next)) r.answer r.after.line;
+      text = trace_line from.number (read_words from.at (event_read e next)) r.answer r.after.line;
       next = onwards from r.answer r.after.line next.at;
       book = r.after.book;
       more = not (ends_run r.answer);
     }
-stepped_by from book Reading.End = record { text = []; next = from; book = book; more = false }
-stepped_by from book (Reading.Refused k) =
+stepped_by from book (Ok None) = record { text = []; next = from; book = book; more = false }
+stepped_by from book (Err k) =
     record {
-      text = trace_line from.number (read_words from.at (Reading.Refused k)) (Answer.Refused k) from.line;
-      next = onwards from (Answer.Refused k) from.line from.at;
+      text = trace_line from.number (read_words from.at (Err k)) (Answer.Refused (number_of k)) from.line;
+      next = onwards from (Answer.Refused (number_of k)) from.line from.at;
       book = book;
       more = false;
     }

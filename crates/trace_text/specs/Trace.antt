@@ -1,11 +1,11 @@
 -- The trace of a sheet's run, whole: what the letters mean, a line an event, what is left, and how many events were accepted and refused. Tied to `run` by trace_text/Runs: trace_states, fresh_answers, fresh_after.
-use Rattle.std.specs.Prelude.{ℕ, zero, suc, cond, List, [], ◌∷◌, ◌++◌, map, eqb, get_or, length}
+use Rattle.std.specs.Prelude.{ℕ, zero, suc, cond, Option, Some, None, List, [], ◌∷◌, ◌++◌, map, eqb, get_or, length, Ok, Err}
 use Rattle.lists.specs.Lists.{count_pass}
 use Rattle.line.specs.Line.{is_idle, phase_at, phase_number}
 use Rattle.line.specs.declared.Line.{Line}
 use Rattle.line.specs.declared.Phase.{Phase}
-use Rattle.event.specs.ReadWrite.{read_at}
-use Rattle.event.specs.declared.Reading.{Reading}
+use Rattle.event.specs.ReadWrite.{Reading, event_read, read_at}
+use Rattle.event.specs.Refusal.{number_of}
 use Rattle.steps.specs.Answer.{said_by}
 use Rattle.steps.specs.State.{State}
 use Rattle.steps.specs.Step.{call_event}
@@ -28,12 +28,12 @@ abbrev pub seen_by : State → ℕ → Reading → Answer → Seen
 seen_by x at reading answer = record { at = at; reading = reading; answer = answer; after = x }
 
 abbrev pub on_read : State → ℕ → Reading → (State → ℕ → List Seen) → List Seen
-on_read x at (Reading.Event e next) rest =
+on_read x at (Ok (Some (e, next))) rest =
     let r = call_event x e in
     let later = rest r.after next.at in
-    seen_by r.after at (Reading.Event e next) r.answer ∷ cond (ends_run r.answer) [] later
-on_read x at Reading.End rest = []
-on_read x at (Reading.Refused k) rest = seen_by x at (Reading.Refused k) (Answer.Refused k) ∷ []
+    seen_by r.after at (event_read e next) r.answer ∷ cond (ends_run r.answer) [] later
+on_read x at (Ok None) rest = []
+on_read x at (Err k) rest = seen_by x at (Err k) (Answer.Refused (number_of k)) ∷ []
 
 -- from a cursor on, as `run_on`
 unfoldable pub seen_on : ℕ → State → List ℕ → ℕ → List Seen
@@ -45,7 +45,11 @@ last_of x [] = x
 last_of x (s ∷ ss) = last_of s.after ss
 
 -- ---- how many were accepted and refused
--- the number of a refusal, 0 of an accepted call
+-- the number of a refusal; none of an accepted call
+abbrev pub refused_by : Answer → Option ℕ
+refused_by a = cond (said_by a).accepted None (Some (said_by a).number)
+
+-- the same with 0 of an accepted call
 abbrev pub refusal_of : Answer → ℕ
 refusal_of a = cond (said_by a).accepted 0 (said_by a).number
 

@@ -1,11 +1,11 @@
 -- A line of a trace: an event and its answer in words, the lanes after it as a row of letters, the pointer and the size. Not in document 01: the contract of trace_text::step.
-use Rattle.std.specs.Prelude.{ℕ, ◌+◌, ◌-◌, cond, List, [], ◌∷◌, ◌++◌, map, get_or, length, replicate, take}
+use Rattle.std.specs.Prelude.{ℕ, ◌+◌, ◌-◌, cond, List, [], ◌∷◌, ◌++◌, map, get_or, length, replicate, take, Some, None, Ok, Err}
 use Rattle.limits.specs.Limits.{most_lanes}
 use Rattle.view.specs.declared.Place.{Place}
 use Rattle.line.specs.Line.{on, phase_number}
 use Rattle.line.specs.declared.Line.{Line}
 use Rattle.line.specs.declared.Phase.{Phase}
-use Rattle.event.specs.declared.Reading.{Reading}
+use Rattle.event.specs.ReadWrite.{Reading}
 use Rattle.steps.specs.Answer.{said_by}
 use Rattle.steps.specs.declared.Answer.{Answer}
 use Rattle.printout.specs.Text.{ascii}
@@ -27,9 +27,9 @@ column width text = text ++ replicate (width - length text + 2) 32
 -- ---- the event
 -- what stands at byte `at` of the sheet: an event's kind and fields, or bytes that are none
 abbrev pub read_words : ℕ → Reading → List (List ℕ)
-read_words at (Reading.Event e next) = event_words e
-read_words at Reading.End = []
-read_words at (Reading.Refused k) = ascii "at byte" ∷ decimal at ∷ []
+read_words at (Ok (Some (e, next))) = event_words e
+read_words at (Ok None) = []
+read_words at (Err k) = ascii "at byte" ∷ decimal at ∷ []
 
 -- ---- the answer
 -- a refusal with its reason

@@ -4,20 +4,20 @@ ghost use Rattle.number_text.specs.Stored.{Stored};
 ghost use Rattle.printout.specs.Print.{words};
 ghost use Rattle.printout.specs.Run.{ends_run};
 ghost use Rattle.trace_text.specs.TraceLine.{refusal_words, told_words};
-ghost use Rattle.trace_text.specs.Trace.{refusal_of};
+ghost use Rattle.trace_text.specs.Trace.{refused_by};
 
 use answer_text::put_values;
 use event_text::{put_marked, put_reason, word};
 use steps::Answer;
-use word_text::{BLANK, LINE_END, wide8};
+use word_text::{BLANK, LINE_END};
 
-// The number of a refusal, 0 of an accepted call.
-pub fn refusal_of(answer: Answer) -> u8
-    ensures { result ≡ refusal_of answer }
+// The number of a refusal; none of an accepted call.
+pub fn refusal_of(answer: Answer) -> Option<u8>
+    ensures { result ≡ refused_by answer }
 {
     match answer {
-        Answer::Refused { number } => number,
-        _ => 0,
+        Answer::Refused { number } => Some(number),
+        _ => None,
     }
 }
 
@@ -25,10 +25,7 @@ pub fn refusal_of(answer: Answer) -> u8
 pub fn ends_run(answer: Answer) -> bool
     ensures { result ≡ ends_run answer }
 {
-    match answer {
-        Answer::Refused { number } => number <= 3,
-        _ => false,
-    }
+    matches!(answer, Answer::Refused { number } if number <= 3)
 }
 
 // A refusal with its reason, and the line end.
@@ -37,7 +34,7 @@ pub fn put_refusal(out: &mut [u8], at: usize, refusal: u8) -> usize
     ensures { Stored (words (refusal_words refusal)) out.old at out.new result × (result ≤ at + 64) }
 {
     let next = word(out, at, b"refused", BLANK);
-    let to_reason = put_marked(out, next, wide8(refusal), b':');
+    let to_reason = put_marked(out, next, u64::from(refusal), b':');
     put_reason(out, to_reason, refusal)
 }
 

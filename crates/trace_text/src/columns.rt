@@ -9,10 +9,7 @@ fn column_end(start: usize, last: usize, width: usize) -> usize
     requires { (start ≤ last) × (last + width + 2 ≤ 18446744073709551615) }
     ensures { result ≡ last + (width - (last - start) + 2) }
 {
-    if last - start < width {
-        return start + width + 2;
-    }
-    last + 2
+    last.max(start + width) + 2
 }
 
 // Ends the column that begins at `start`: blanks in place of the line end before `end`, up to the width, and two more.

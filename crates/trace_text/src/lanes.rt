@@ -31,11 +31,7 @@ fn letter(phase: Phase) -> u8
 fn row_length(line: Line) -> usize
     ensures { (result ≡ length (row_of line)) × (result ≤ most_lanes) }
 {
-    let lanes = line.lanes as usize;
-    if MOST_LANES < lanes {
-        return MOST_LANES;
-    }
-    lanes
+    usize::from(line.lanes).min(MOST_LANES)
 }
 
 // A letter for each lane of the line.
@@ -44,18 +40,14 @@ pub fn put_row(out: &mut [u8], at: usize, line: Line) -> usize
     ensures { Stored (row_of line) out.old at out.new result × (result ≤ at + most_lanes) }
 {
     let count = row_length(line);
-    let lane = line.lane;
-    let mut i: usize = 0;
-    while i < count {
-        let here = lane[i];
-        let phase = here.phase;
-        out[at + i] = letter(phase);
-        i += 1;
+    for i in 0..count {
+        out[at + i] = letter(line.lane[i].phase);
     }
-    at + i
+    at + count
 }
 
 // The word of a phase, and the line end.
+#[tactic(auto, unfolding(printout::specs::Print::words))]
 fn put_phase(out: &mut [u8], at: usize, phase: Phase) -> usize
     requires { at + 9 ≤ length out.old }
     ensures { Stored (words (phase_word phase ∷ [])) out.old at out.new result × (result ≤ at + 9) }
@@ -84,19 +76,15 @@ fn put_lane(out: &mut [u8], at: usize, lane: u64, phase: Phase) -> usize
 }
 
 // The lines of the lanes.
+#[tactic(auto, using(crate::proofs::Texts::none_yet))]
 pub fn put_lanes(out: &mut [u8], at: usize, line: Line) -> usize
     requires { at + most_lanes * 40 ≤ length out.old }
     ensures { Stored (lane_lines line) out.old at out.new result × (result ≤ at + most_lanes * 40) }
 {
     let count = row_length(line);
-    let lane = line.lane;
     let mut end = at;
-    let mut i: usize = 0;
-    while i < count {
-        let here = lane[i];
-        let phase = here.phase;
-        end = put_lane(out, end, i as u64, phase);
-        i += 1;
+    for i in 0..count {
+        end = put_lane(out, end, i as u64, line.lane[i].phase);
     }
     end
 }

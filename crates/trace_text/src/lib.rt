@@ -1,9 +1,9 @@
 // The trace of a sheet's run, a step an event: the event and its answer in words, the lanes as a row of letters, the pointer and the size; then counts.
 #![tactic(auto)]
 
-ghost use Rattle.std.specs.Prelude.{◌+◌, ◌≤◌, ◌<◌, true, [], ◌∷◌, ◌≡◌, leb, length};
+ghost use Rattle.std.specs.Prelude.{◌+◌, ◌≤◌, ◌<◌, true, [], ◌∷◌, ◌≡◌, Err, leb, length};
 ghost use Rattle.lists.specs.Lists.{all_pass};
-ghost use Rattle.event.specs.declared.Reading.{Reading};
+ghost use Rattle.event.specs.ReadWrite.{event_read};
 ghost use Rattle.number_text.specs.Stored.{Stored};
 ghost use Rattle.printout.specs.Text.{ascii};
 ghost use Rattle.printout.specs.Print.{decimal};
@@ -15,12 +15,12 @@ ghost use Rattle.trace_text.specs.Steps.{GoesOn, StepMeets, StepReady, counted, 
 use answers::{ends_run, refusal_of};
 use columns::end_column;
 use decode::read_event;
-use event::{Cursor, Event, Reading};
+use event::{Cursor, Event, Refusal};
 use event_calls::call_event;
 use event_text::{named, number, put_event, word};
 use line::Line;
 use results::put_result;
-use steps::Answer;
+use steps::{Answer, Outcome};
 use word_text::LINE_END;
 
 mod answers;
@@ -53,9 +53,8 @@ pub struct Traced {
 pub fn start() -> Tracing
     ensures { result ≡ start_of }
 {
-    let line = Line::unopened();
     Tracing {
-        line,
+        line: Line::unopened(),
         at: 0,
         number: 0,
         counts: [0; COUNTS],
@@ -103,17 +102,15 @@ fn put_byte_column(out: &mut [u8], at: usize, byte: u64) -> usize
 }
 
 // One answer more.
-fn count_answer(counts: [u64; COUNTS], answer: Answer) -> [u64; COUNTS]
+fn count_answer(mut counts: [u64; COUNTS], answer: Answer) -> [u64; COUNTS]
     requires { all_pass (λ n. leb n 18446744073709551614) counts ≡ true }
     ensures { result ≡ counted answer counts }
 {
-    let k = refusal_of(answer) as usize;
-    if COUNTS <= k {
-        return counts;
+    let k = refusal_of(answer).map_or(0, usize::from);
+    if k < COUNTS {
+        counts[k] += 1;
     }
-    let mut after = counts;
-    after[k] = counts[k] + 1;
-    after
+    counts
 }
 
 // Where a trace stands after an answer, with the line as it is then and the next byte of the sheet.
@@ -121,66 +118,62 @@ fn go_on(from: Tracing, answer: Answer, line: Line, at: usize) -> Tracing
     requires { (from.number < 18446744073709551615) × (all_pass (λ n. leb n from.number) from.counts ≡ true) }
     ensures { result ≡ onwards from answer line at }
 {
-    let before = from.counts;
-    let counts = count_answer(before, answer);
     Tracing {
         line,
         at,
         number: from.number + 1,
-        counts,
+        counts: count_answer(from.counts, answer),
     }
 }
 
 // The step of an event: the call, and its line.
 fn step_event(from: Tracing, book: &mut [u8], event: Event, next: Cursor, out: &mut [u8]) -> Traced
     requires { (from.number < 18446744073709551615) × (all_pass (λ n. leb n from.number) from.counts ≡ true) × (most_trace_line ≤ length out.old) }
-    ensures { StepMeets (stepped_by from book.old (Reading.Event event next)) out.old result book.new out.new }
+    ensures { StepMeets (stepped_by from book.old (event_read event next)) out.old result book.new out.new }
 {
-    let line = from.line;
-    let outcome = call_event(line, book, event);
-    let answer = outcome.answer;
-    let after = outcome.line;
+    let Outcome { line, answer } = call_event(from.line, book, event);
     let to_event = put_event_number(out, from.number);
     let to_answer = put_event_column(out, to_event, event);
-    let length = put_result(out, to_answer, answer, after);
+    let length = put_result(out, to_answer, answer, line);
     Traced {
-        next: go_on(from, answer, after, next.at),
+        next: go_on(from, answer, line, next.at),
         length,
         more: !ends_run(answer),
     }
 }
 
 // The step of bytes that are no event, which ends the run.
-fn step_refused(from: Tracing, book: &[u8], refusal: u8, out: &mut [u8]) -> Traced
+fn step_refused(from: Tracing, book: &[u8], refusal: Refusal, out: &mut [u8]) -> Traced
     requires { (from.number < 18446744073709551615) × (all_pass (λ n. leb n from.number) from.counts ≡ true) × (most_trace_line ≤ length out.old) }
-    ensures { StepMeets (stepped_by from book.now (Reading.Refused refusal)) out.old result book.now out.new }
+    ensures { StepMeets (stepped_by from book.now (Err refusal)) out.old result book.now out.new }
 {
-    let line = from.line;
-    let answer = Answer::Refused { number: refusal };
+    let answer = Answer::Refused {
+        number: refusal.number(),
+    };
     let to_byte = put_event_number(out, from.number);
     let to_answer = put_byte_column(out, to_byte, from.at as u64);
-    let length = put_result(out, to_answer, answer, line);
+    let length = put_result(out, to_answer, answer, from.line);
     Traced {
-        next: go_on(from, answer, line, from.at),
+        next: go_on(from, answer, from.line, from.at),
         length,
         more: false,
     }
 }
 
 // One event of the sheet: the call, its line at the start of `out`, and where the trace then stands.
+#[tactic(auto, using(crate::proofs::Within::ended_goes_on))]
 pub fn step(from: Tracing, book: &mut [u8], sheet: &[u8], out: &mut [u8]) -> Traced
     requires { StepReady from sheet.now out.old }
     ensures step_meets { StepMeets (stepped_in from book.old sheet.now) out.old result book.new out.new }
     ensures goes_on { GoesOn from sheet.now result }
 {
-    let reading = read_event(sheet, Cursor { at: from.at });
-    match reading {
-        Reading::Event { event, next } => step_event(from, book, event, next, out),
-        Reading::End => Traced {
+    match read_event(sheet, Cursor { at: from.at }) {
+        Ok(Some((event, next))) => step_event(from, book, event, next, out),
+        Ok(None) => Traced {
             next: from,
             length: 0,
             more: false,
         },
-        Reading::Refused(refusal) => step_refused(from, book, refusal, out),
+        Err(refusal) => step_refused(from, book, refusal, out),
     }
 }

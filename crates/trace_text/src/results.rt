@@ -11,7 +11,7 @@ use event_text::{number, word};
 use line::Line;
 use steps::Answer;
 use view::Place;
-use word_text::{BLANK, LINE_END, wide32};
+use word_text::{BLANK, LINE_END};
 
 // The pointer and the size.
 fn put_tail(out: &mut [u8], at: usize, size: u32, pointer: Place) -> usize
@@ -19,10 +19,10 @@ fn put_tail(out: &mut [u8], at: usize, size: u32, pointer: Place) -> usize
     ensures { Stored (tail_of size pointer) out.old at out.new result × (result ≤ at + 64) }
 {
     let to_place = word(out, at, b"  pointer", BLANK);
-    let end = number(out, to_place, wide32(pointer.0), LINE_END);
+    let end = number(out, to_place, u64::from(pointer.0), LINE_END);
     let next = end_column(out, to_place, end, 5);
     let to_size = word(out, next, b"size", BLANK);
-    number(out, to_size, wide32(size), LINE_END)
+    number(out, to_size, u64::from(size), LINE_END)
 }
 
 // The answer, and what it left.
@@ -33,6 +33,5 @@ pub fn put_result(out: &mut [u8], at: usize, answer: Answer, line: Line) -> usiz
     let end = put_told(out, at, answer);
     let row = end_column(out, at, end, 36);
     let tail = put_row(out, row, line);
-    let pointer = line.pointer;
-    put_tail(out, tail, line.size, pointer)
+    put_tail(out, tail, line.size, line.pointer)
 }

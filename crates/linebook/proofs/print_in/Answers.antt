@@ -4,4 +4,4 @@ use Rattle.std.proofs.lemmas.Bool.{leb-true}
 use Rattle.linebook.proofs.print_in.Goals as goal
 
 pub print_first-requires : goal.print_first-requires
-print_first-requires c = omega (arith, leb-true c.in-Length.count (length c.args.text.now) c.in-Length.ensures.fits, c.print_sheet-printed.auto.out)
+print_first-requires c = omega (arith, leb-true c.in-Ok.count (length c.args.text.now) c.in-Ok.ensures.fits, c.print_sheet.auto.out)

@@ -5,5 +5,5 @@ use Rattle.sheet.proofs.print_bytes.Goals as goal
 
 pub print_first-requires : goal.print_first-requires
 print_first-requires c =
-    let fits = parsed_fits c.args.text.now (length c.bytes_buffer-bytes.result) c.in-Length.count (sym c.in-Length.ensures.0) in
-    omega (arith, fits, c.parse-parsed.auto.out)
+    let fits = parsed_fits c.args.text.now (length c.bytes_buffer-bytes.result) c.in-Ok.count (sym c.in-Ok.ensures.0) in
+    omega (arith, fits, c.parse.auto.out)

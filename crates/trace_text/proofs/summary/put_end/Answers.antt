@@ -20,8 +20,8 @@ put_all_refused-requires c =
 pub returns : goal.returns
 unfolding words
 returns c =
-    let size = rw c.wide32.ensures at c.number-to_word.ensures.0 in
-    let place = rw c.wide32-2.ensures at c.number-next.ensures.0 in
+    let size = rw c.from.ensures at c.number-to_word.ensures.0 in
+    let place = rw c.from-2.ensures at c.number-next.ensures.0 in
     let left = and_then c.word-to_size.ensures.0 (and_then size (and_then c.word-to_place.ensures.0 place)) in (
       and_then left (and_then c.put_lanes-to_counts.ensures.0 (and_then c.put_accepted-refused.ensures.0 c.put_all_refused.ensures.0)),
       omega (
