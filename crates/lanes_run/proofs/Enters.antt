@@ -1,4 +1,5 @@
 -- An enter of a sheet in the line that a run keeps: its stores leave the line that the step leaves, and the counts of its lanes.
+use Rattle.std.specs.Prelude.{Ok}
 use Prim.Native.Nat.{ℕ, ◌+◌, ◌<◌}
 use mathlib.Core.Path.{◌≡◌, ap, ◌∙◌}
 use mathlib.Core.Bool.{true}
@@ -55,7 +56,7 @@ module _ (l : Line) (book : List ℕ) (shaped : Shaped l) (ok : sound l (length 
   abbrev call : Event
   call = Event.Enter i c
 
-  module _ (e : enter_of l i c ≡ Entered.Gathered) where
+  module _ (e : enter_of l i c ≡ Ok Entered.Gathered) where
     idle : phase_at l i ≡ Phase.Idle
     idle = enter_idle l book shaped ok i h c (ap is_accepted e)
 
@@ -72,8 +73,8 @@ module _ (l : Line) (book : List ℕ) (shaped : Shaped l) (ok : sound l (length 
         rw (same, at, ← entry_is i below, a, g, t)
 
   -- the line of a completed ordered call, from the one with the lane's own stores
-  pub complete_called : enter_of l i c ≡ Entered.Complete → (j : ℕ) → j ≡ entry_of i
+  pub complete_called : enter_of l i c ≡ Ok Entered.Complete → (j : ℕ) → j ≡ entry_of i
       → call_event (state_of l book) call
       ≡ leaves (Answer.Ordered s.pointer (counts.total + c))
-      (with_lanes (stored_line l j (enter_change s c (counts.total + c) Entered.Complete)) (started s.pointer.0 (stored_line l j (enter_change s c (counts.total + c) Entered.Complete)).lane)) book
+      (with_lanes (stored_line l j (enter_change s c (counts.total + c) (Ok Entered.Complete))) (started s.pointer.0 (stored_line l j (enter_change s c (counts.total + c) (Ok Entered.Complete))).lane)) book
   complete_called e j at = enter_complete l book shaped ok i h c e ∙ rw (at, sees, same, ← entry_is i below, set-get_or l.flag i 0)

@@ -13,10 +13,9 @@ use Rattle.line.specs.Sound.{sound}
 use Rattle.line.proofs.Facts.{good_of, sound_of}
 use Rattle.waitlist.specs.NextLane.{next_lane}
 use Rattle.event.specs.Event.{given}
-use Rattle.event.specs.ReadWrite.{read_at}
+use Rattle.event.specs.ReadWrite.{event_read, read_at}
 use Rattle.event.specs.declared.Cursor.{Cursor}
 use Rattle.event.specs.declared.Event.{Event}
-use Rattle.event.specs.declared.Reading.{Reading}
 use Rattle.event.proofs.Lengths.{reads}
 use Rattle.steps.specs.Meets.{state_of}
 use Rattle.steps.specs.State.{Result, State, leaves}
@@ -84,7 +83,7 @@ module _ (sheet : List ℕ) (x₀ : State) (out₀ : List ℕ) (from so_far firs
   x = state_of line book
 
   -- an event, with its answer and what it leaves
-  module _ (e : Event) (next : Cursor) (q : read_at sheet at ≡ Reading.Event e next) (a : Answer) (line' : Line) (book' : List ℕ) (called : call_event x e ≡ leaves a line' book') where
+  module _ (e : Event) (next : Cursor) (q : read_at sheet at ≡ event_read e next) (a : Answer) (line' : Line) (book' : List ℕ) (called : call_event x e ≡ leaves a line' book') where
     abbrev later : Ran
     later = run_on (length sheet - (number + 1)) (state_of line' book') sheet next.at
 

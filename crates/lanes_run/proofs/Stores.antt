@@ -1,4 +1,5 @@
 -- The stores of a lane's call in the line that a run keeps: they leave the line that the step leaves, and the counts of its lanes.
+use Rattle.std.specs.Prelude.{Some, None}
 use Prim.Native.Nat.{ℕ, ◌+◌, ◌≤◌, ◌<◌}
 use mathlib.Core.Path.{◌≡◌, refl, sym, ap, ◌∙◌}
 use mathlib.Core.Bool.{Bool, true, false, not, ◌||◌}
@@ -18,7 +19,6 @@ use Rattle.line.specs.Sound.{sound}
 use Rattle.lane_tests.specs.Rules.{counts_of}
 use Rattle.lane_tests.specs.declared.tallies.LaneCounts.{LaneCounts}
 use Rattle.waitlist.specs.NextLane.{next_lane}
-use Rattle.waitlist.specs.declared.Wakes.{Wakes}
 use Rattle.event.specs.Event.{given}
 use Rattle.steps.specs.Effects.{woken}
 use Rattle.steps.specs.Meets.{state_of}
@@ -91,14 +91,14 @@ module _ (l : Line) (book : List ℕ) (shaped : Shaped l) (lanes_fit : l.lanes �
       applies ∙ ap (λ (m : Line). leaves c.answer m book') same
 
   -- no lane is woken
-  pub none_called : (i : ℕ) → i ≡ j → c.wakes ≡ Wakes.None → call_event (state_of l book) (lane_event lane call) ≡ leaves c.answer (stored_line l i c) book'
+  pub none_called : (i : ℕ) → i ≡ j → c.wakes ≡ None → call_event (state_of l book) (lane_event lane call) ≡ leaves c.answer (stored_line l i c) book'
   none_called i at none = applies ∙ ap (λ (m : Line). leaves c.answer m book') (rw (none, at))
 
-  pub none_counts : (i : ℕ) → i ≡ j → c.wakes ≡ Wakes.None → counts_after (counts_of l.lane) s c ≡ counts_of (stored_line l i c).lane
+  pub none_counts : (i : ℕ) → i ≡ j → c.wakes ≡ None → counts_after (counts_of l.lane) s c ≡ counts_of (stored_line l i c).lane
   none_counts i at none = rw (sees, at) (sym (counts_kept l shaped.lanes_length j index_below c regular) ∙ rw none)
 
   -- a lane is woken
-  module _ (i w v : ℕ) (y : Phase) (at : i ≡ j) (wakes : c.wakes ≡ Wakes.Lane w) (entry : v ≡ entry_of w) (phase : y ≡ woken c.pointer (phase_at (stored_line l i c) v)) where
+  module _ (i w v : ℕ) (y : Phase) (at : i ≡ j) (wakes : c.wakes ≡ Some w) (entry : v ≡ entry_of w) (phase : y ≡ woken c.pointer (phase_at (stored_line l i c) v)) where
     same_line : applied l j c ≡ with_phase (stored_line l i c) v y
     same_line = let below : w < most_lanes = ltb-true w most_lanes (rw wakes at regular.wakes) in rw (phase, wakes, at, entry, ← entry_is w below)
 

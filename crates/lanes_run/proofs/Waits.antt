@@ -6,10 +6,9 @@ use native.Mathlib.Omega.{arith}
 use lib.ListN.{length}
 use Rattle.line.specs.declared.Line.{Line}
 use Rattle.waitlist.specs.NextLane.{next_lane}
-use Rattle.event.specs.ReadWrite.{read_at}
+use Rattle.event.specs.ReadWrite.{event_read, read_at}
 use Rattle.event.specs.declared.Cursor.{Cursor}
 use Rattle.event.specs.declared.Event.{Event}
-use Rattle.event.specs.declared.Reading.{Reading}
 use Rattle.event.proofs.Lengths.{reads}
 use Rattle.steps.specs.Meets.{state_of}
 use Rattle.steps.specs.State.{Result, State, leaves}
@@ -49,7 +48,7 @@ module _ (sheet : List ℕ) (x₀ : State) (waits₀ : List ℕ) (from first : �
   seen = entry call (said_to next_lane x call)
 
   -- an event, with its answer and what it leaves
-  module _ (e : Event) (next : Cursor) (q : read_at sheet at ≡ Reading.Event e next) (a : Answer) (line' : Line) (book' : List ℕ) (called : call_event x e ≡ leaves a line' book') where
+  module _ (e : Event) (next : Cursor) (q : read_at sheet at ≡ event_read e next) (a : Answer) (line' : Line) (book' : List ℕ) (called : call_event x e ≡ leaves a line' book') where
     step_is : step_by next_lane x (call_in call) ≡ leaves a line' book'
     step_is = ap (step_by next_lane x) (read_event sheet at e next q) ∙ called
 

@@ -1,28 +1,33 @@
 -- The parts of a run: where it stands, and what a part of it has added. Tied to `run_on` by lanes_run/Going: goes_on, joined.
-use Rattle.std.specs.Prelude.{ℕ, ◌+◌, ◌-◌, ◌*◌, ◌≤◌, true, not, List, ◌++◌, ◌≡◌, eqb, length}
-use Rattle.limits.specs.Limits.{most_sheet}
+use Rattle.std.specs.Prelude.{Option, Some, None, ℕ, ◌-◌, ◌*◌, ◌≤◌, Bool, true, cond, not, List, ◌++◌, ◌≡◌, eqb, get_or, length, set}
+use Rattle.limits.specs.Limits.{most_pointer, most_sheet}
 use Rattle.view.specs.declared.Place.{Place}
-use Rattle.line.specs.Line.{Shaped}
+use Rattle.line.specs.Line.{Shaped, idle_lane, lane}
 use Rattle.line.specs.Sound.{sound}
 use Rattle.line.specs.declared.Lane.{Lane}
 use Rattle.line.specs.declared.Line.{Line}
 use Rattle.lane_tests.specs.Rules.{counts_of}
 use Rattle.lane_tests.specs.declared.tallies.LaneCounts.{LaneCounts}
 use Rattle.waitlist.specs.NextLane.{next_lane}
-use Rattle.event.specs.ReadWrite.{read_at}
+use Rattle.event.specs.ReadWrite.{event_read, read_at}
+use Rattle.event.specs.Refusal.{number_of}
 use Rattle.event.specs.declared.Cursor.{Cursor}
 use Rattle.event.specs.declared.Event.{Event}
-use Rattle.event.specs.declared.Reading.{Reading}
-use Rattle.steps.specs.Effects.{started}
+use Rattle.event.specs.declared.Refusal.{Refusal}
+use Rattle.steps.specs.Effects.{started, woken}
 use Rattle.steps.specs.Meets.{state_of}
 use Rattle.steps.specs.State.{State}
+use Rattle.changes.specs.Change.{entry_of}
+use Rattle.changes.specs.declared.Change.{Change}
 use Rattle.changes.specs.declared.Seen.{Seen}
 use Rattle.scopes.specs.Scope.{scope_of}
 use Rattle.scopes.specs.declared.LineCall.{LineCall}
 use Rattle.scopes.specs.declared.Scope.{Scope}
+use Rattle.ordered_calls.specs.Settled.{IdlePast}
 use Rattle.line_calls.specs.Refusal.{line_refusal}
 use Rattle.call_head.specs.Head.{NoLane}
 use Rattle.call_head.specs.declared.Head.{Head}
+use Rattle.sheet_calls.specs.declared.Called.{Called}
 use Rattle.sheet_calls.specs.declared.Caller.{Caller}
 use Rattle.trace.specs.SheetCalls.{calls_from}
 use Rattle.trace.specs.Trace.{Entry, entries}
@@ -33,7 +38,6 @@ use Rattle.printout.specs.Run.{Ran, run_on}
 use Rattle.number_text.specs.Stored.{Stored}
 use Rattle.answer_text.specs.Printing.{most_line}
 use Rattle.run_text.specs.RunText.{most_text}
-use Rattle.lanes_run.specs.declared.LineRefused.{LineRefused}
 use Rattle.lanes_run.specs.declared.Standing.{Standing}
 use Rattle.lanes_run.specs.declared.Started.{Started}
 
@@ -53,6 +57,34 @@ caller_now h l size pointer counts own flag = record { head = h; seen = seen_now
 -- the lanes of an ordered call that has started from the pointer, and their counts
 abbrev pub started_now : ℕ → List Lane → Started
 started_now pointer lanes = record { lane = started pointer lanes; counts = counts_of (started pointer lanes) }
+
+-- ---- what an accepted call of the lane at an entry leaves of the lanes
+-- its own phase
+abbrev pub own_changed : List Lane → ℕ → Change → List Lane
+own_changed lanes i c = set lanes i (lane c.phase)
+
+-- then the lane that it wakes, woken with a pointer
+abbrev pub woken_at : List Lane → ℕ → Place → List Lane
+woken_at lanes w p = set lanes w (lane (woken p (get_or lanes w idle_lane).phase))
+
+-- or, where it starts an ordered call, all of them from the pointer before it
+abbrev pub lanes_left : Option ℕ → Bool → Place → Place → List Lane → List Lane
+lanes_left (Some w) starts before p lanes = woken_at lanes (entry_of w) p
+lanes_left None starts before p lanes = cond starts (started before.0 lanes) lanes
+
+-- and the counts, which are those that it gives, or those of the lanes that have started
+abbrev pub counts_left : Option ℕ → Bool → Place → LaneCounts → List Lane → LaneCounts
+counts_left (Some w) starts before counts lanes = counts
+counts_left None starts before counts lanes = cond starts (counts_of (started before.0 lanes)) counts
+
+pub record Stores (lanes : List Lane) (flags : List ℕ) (i : ℕ) (r : Called) (before : Place) (lanes_after : List Lane) (flags_after : List ℕ) (counts : LaneCounts) : Type 0 where
+  pub lane : lanes_after ≡ lanes_left r.change.wakes r.starts before r.change.pointer (own_changed lanes i r.change)
+  pub flag : flags_after ≡ set flags i r.change.flag
+  pub count : counts ≡ counts_left r.change.wakes r.starts before r.counts (own_changed lanes i r.change)
+
+-- lanes that may start: from a pointer in its range, and past the first n of them all idle
+abbrev pub MayStart : List Lane → ℕ → Called → ℕ → Place → Type 0
+MayStart lanes i r n before = r.change.wakes ≡ None → r.starts ≡ true → (before.0 ≤ most_pointer) × IdlePast n (own_changed lanes i r.change)
 
 -- ---- a part of a run
 -- the text of the answers, numbered from k on, and of what a run leaves
@@ -110,15 +142,15 @@ pub record Went (s : Standing) (book sheet out waits : List ℕ) (r : Standing) 
 abbrev pub refusal_now : LineCall → Line → ℕ → Place → LaneCounts → ℕ → ℕ
 refusal_now call l size pointer counts buffer = line_refusal call l.lanes l.capacity size pointer l.view (eqb counts.active 0) buffer
 
-pub record LineRefusal (l : Line) (size : ℕ) (pointer : Place) (counts : LaneCounts) (buffer : ℕ) (sheet : List ℕ) (at : ℕ) (r : LineRefused) : Type 0 where
+pub record LineRefusal (l : Line) (size : ℕ) (pointer : Place) (counts : LaneCounts) (buffer : ℕ) (sheet : List ℕ) (at : ℕ) (reason : Refusal) (past : ℕ) : Type 0 where
   pub event : Event
   pub next : Cursor
   pub call : LineCall
-  pub read : read_at sheet at ≡ Reading.Event event next
+  pub read : read_at sheet at ≡ event_read event next
   pub scope : scope_of event ≡ Scope.Line call
-  pub number : r.number ≡ refusal_now call l size pointer counts buffer
-  pub past : r.at ≡ next.at
+  pub number : number_of reason ≡ refusal_now call l size pointer counts buffer
+  pub further : past ≡ next.at
 
--- nothing is said where the number is 0: then the part ends, and the call is made on the line by value
-abbrev pub RefusedLine : Line → ℕ → Place → LaneCounts → ℕ → List ℕ → ℕ → LineRefused → Type 0
-RefusedLine l size pointer counts buffer sheet at r = (r.number ≡ 0 → ⊥) → LineRefusal l size pointer counts buffer sheet at r
+-- nothing is said where there is no refusal: then the part ends, and the call is made on the line by value
+abbrev pub RefusedLine : Line → ℕ → Place → LaneCounts → ℕ → List ℕ → ℕ → Option (Refusal × ℕ) → Type 0
+RefusedLine l size pointer counts buffer sheet at r = (reason : Refusal) (past : ℕ) → r ≡ Some (reason, past) → LineRefusal l size pointer counts buffer sheet at reason past

@@ -1,22 +1,23 @@
 // The calls of lanes of a sheet, one after the other, and the refused ones on the whole line: the part of a run that leaves lanes, capacity and view as they are.
 #![tactic(auto)]
 
-ghost use Rattle.std.specs.Prelude.{◌+◌, ◌≤◌, ◌≡◌, length};
-ghost use Rattle.limits.specs.Limits.{most_pointer};
+ghost use Rattle.std.specs.Prelude.{None, ◌+◌, ◌≤◌, ◌<◌, ◌≡◌, length};
+ghost use Rattle.limits.specs.Limits.{most_lanes, most_pointer};
 ghost use Rattle.line.specs.Line.{lane};
+ghost use Rattle.event.specs.Refusal.{number_of};
 ghost use Rattle.steps.specs.Effects.{woken};
 ghost use Rattle.steps.specs.declared.Answer.{Answer};
 ghost use Rattle.ordered_calls.specs.Settled.{IdlePast};
 ghost use Rattle.printout.specs.Print.{answer_line};
 ghost use Rattle.number_text.specs.Stored.{Stored};
 ghost use Rattle.answer_text.specs.Printing.{most_line};
-ghost use Rattle.lanes_run.specs.Parts.{Begun, RefusedLine, Went, caller_now, line_now, started_now};
+ghost use Rattle.lanes_run.specs.Parts.{Begun, MayStart, RefusedLine, Stores, Went, caller_now, line_now, started_now};
 
 use answer_text::put_answer;
 use call_head::{Head, head_at};
 use changes::phases::wake_with;
 use changes::{Seen, entry_of};
-use event::Reading;
+use event::Refusal;
 use lane_tests::tallies::{LaneCounts, counts_of};
 use limits::MOST_LANES;
 use line::{Lane, Line};
@@ -25,12 +26,11 @@ use line_number::{next_number, number_of, plain_number, put_line_number};
 use ordered_calls::start_all;
 use reader::event_at;
 use scopes::{Scope, scope_of};
-use sheet_calls::{Caller, call_lane};
+use sheet_calls::{Called, Caller, Table, call_lane};
 use steps::Answer;
 use tiling::{Tiling, records_of};
 use view::Place;
 use wait_counts::count_answer;
-use waitlist::Wakes;
 
 // Where a run stands: the line, the index of the next event, the length of the text, and how many events there were.
 #[derive(Clone, Copy)]
@@ -39,13 +39,6 @@ pub struct Standing {
     pub at: usize,
     pub length: usize,
     pub number: u64,
-}
-
-// What refuses a call on the whole line, 0 for nothing, and the index of the next event.
-#[derive(Clone, Copy)]
-pub struct LineRefused {
-    pub number: u8,
-    pub at: usize,
 }
 
 // The lanes once an ordered call has started, and their counts.
@@ -59,9 +52,8 @@ pub struct Started {
 fn wake_lane(waiting: Lane, pointer: Place) -> Lane
     ensures { result ≡ lane (woken pointer waiting.phase) }
 {
-    let phase = waiting.phase;
     Lane {
-        phase: wake_with(pointer, phase),
+        phase: wake_with(pointer, waiting.phase),
     }
 }
 
@@ -89,27 +81,20 @@ fn caller_of(
 ) -> Caller
     ensures { result ≡ caller_now head line size pointer counts own flag }
 {
-    let phase = own.phase;
     let seen = Seen {
         lanes: line.lanes,
         capacity: line.capacity,
         size,
         pointer,
         gathering: counts.gathered != 0,
-        phase,
+        phase: own.phase,
         flag,
     };
     Caller { head, seen, counts }
 }
 
-// Nothing refuses what stands at an index.
-fn none_refused(at: usize) -> LineRefused
-    ensures { result.number ≡ 0 }
-{
-    LineRefused { number: 0, at }
-}
-
-// What refuses the event at an index, where it is a call on the whole line; no line is copied for it.
+// What refuses the event at an index, where it is a call on the whole line that is refused, and the index of the next event; no line is copied for it.
+#[inline(always)]
 fn refuse_line(
     line: Line,
     size: u32,
@@ -118,42 +103,40 @@ fn refuse_line(
     buffer: usize,
     sheet: &[u8],
     at: usize,
-) -> LineRefused
+) -> Option<(Refusal, usize)>
     ensures { RefusedLine line size pointer counts buffer sheet.now at result }
 {
     let step = event_at(sheet, at);
     let reading = step.reading;
-    let Reading::Event { event, next: _ } = reading else {
-        return none_refused(at);
+    let Ok(Some((event, _))) = reading else {
+        return None;
     };
-    let scope = scope_of(event);
-    let Scope::Line { call } = scope else {
-        return none_refused(at);
+    let Scope::Line { call } = scope_of(event) else {
+        return None;
     };
-    let view = line.view;
     let idle = counts.active == 0;
-    let number = refusal_of(
+    let refusal = refusal_of(
         call,
         line.lanes,
         line.capacity,
         size,
         pointer,
-        view,
+        line.view,
         idle,
         buffer,
-    );
-    LineRefused {
-        number,
-        at: step.at,
-    }
+    )?;
+    Some((refusal, step.at))
 }
 
 // The line of a refusal.
-fn put_refusal(out: &mut [u8], at: usize, number: u64, refusal: u8) -> usize
+fn put_refusal(out: &mut [u8], at: usize, number: u64, refusal: Refusal) -> usize
     requires { at + most_line ≤ length out.old }
-    ensures { Stored (answer_line number (Answer.Refused refusal)) out.old at out.new result × (result ≤ at + most_line) }
+    ensures { Stored (answer_line number (Answer.Refused (number_of refusal))) out.old at out.new result × (result ≤ at + most_line) }
 {
-    put_answer(out, at, number, Answer::Refused { number: refusal })
+    let answer = Answer::Refused {
+        number: refusal.number(),
+    };
+    put_answer(out, at, number, answer)
 }
 
 // A line with these numbers, lanes and flags in place of its own.
@@ -166,12 +149,13 @@ fn line_with(
 ) -> Line
     ensures { result ≡ line_now line size pointer lane flag }
 {
-    let mut next = line;
-    next.size = size;
-    next.pointer = pointer;
-    next.lane = lane;
-    next.flag = flag;
-    next
+    Line {
+        size,
+        pointer,
+        lane,
+        flag,
+        ..line
+    }
 }
 
 // An ordered call starts: the first n lanes, from the pointer; no lane is gathered then.
@@ -180,8 +164,42 @@ fn start_lanes(lanes: [Lane; MOST_LANES], n: u8, pointer: u32) -> Started
     ensures { result ≡ started_now pointer lanes }
 {
     let lane = start_all(lanes, n, pointer);
-    let counts = counts_of(lane);
-    Started { lane, counts }
+    Started {
+        lane,
+        counts: counts_of(lane),
+    }
+}
+
+// What an accepted call of the lane at an entry changes of the lanes and their flags: the lane's own entries, and the lane that it wakes, or all lanes where an ordered call
+// starts from the pointer before it. It gives the counts of the lanes as they are then.
+fn store_call(
+    lane: &mut [Lane; MOST_LANES],
+    flag: &mut [u8; MOST_LANES],
+    i: usize,
+    called: Called,
+    lanes: u8,
+    before: Place,
+) -> LaneCounts
+    requires { (i < most_lanes) × MayStart lane.old i called lanes before }
+    ensures { Stores lane.old flag.old i called before lane.new flag.new result }
+{
+    let change = called.change;
+    flag[i] = change.flag;
+    lane[i] = Lane {
+        phase: change.phase,
+    };
+    if let Some(woken) = change.wakes {
+        let w = entry_of(woken);
+        lane[w] = wake_lane(lane[w], change.pointer);
+        return called.counts;
+    }
+    if !called.starts {
+        return called.counts;
+    }
+    let started = start_lanes(*lane, lanes, before.0);
+    let after = started.lane;
+    *lane = after;
+    started.counts
 }
 
 // The calls of lanes, and the refused ones on the whole line, as far as there are such; `waits` counts the waiting. What they change of the line stays in locals,
@@ -197,9 +215,12 @@ pub fn run_lanes(
     ensures { Went from book.old sheet.now out.old waits.old result book.new out.new waits.new }
 {
     let line = from.line;
-    let view = line.view;
-    let tiling = Tiling::of(view);
-    let records = records_of(view);
+    let tiling = Tiling::of(line.view);
+    let records = records_of(line.view);
+    let table = Table {
+        tiling,
+        records: &records,
+    };
     let mut size = line.size;
     let mut pointer = line.pointer;
     let mut lane = line.lane;
@@ -209,45 +230,33 @@ pub fn run_lanes(
     let mut length = from.length;
     let mut number = plain_number(from.number);
     loop {
-        let head = head_at(sheet, at);
-        if head.whole {
+        if let Some(head) = head_at(sheet, at) {
             let i = entry_of(head.lane);
-            let own = lane[i];
-            let caller = caller_of(head, line, size, pointer, counts, own, flag[i]);
+            let caller = caller_of(head, line, size, pointer, counts, lane[i], flag[i]);
             let to = put_line_number(out, length, number);
-            let called = call_lane(caller, tiling, &records, &flag, book, sheet, out, to);
+            let called = call_lane(caller, table, &flag, book, sheet, out, to);
             at = called.next;
             length = called.end;
             if !called.refused {
-                let before = pointer;
-                let change = called.change;
-                let changed = change.phase;
-                let answer = change.answer;
-                count_answer(waits, i, answer);
-                counts = called.counts;
-                size = change.size;
-                pointer = change.pointer;
-                flag[i] = change.flag;
-                lane[i] = Lane { phase: changed };
-                let wakes = change.wakes;
-                if let Wakes::Lane(woken) = wakes {
-                    let w = entry_of(woken);
-                    let waiting = lane[w];
-                    lane[w] = wake_lane(waiting, pointer);
-                } else if called.starts {
-                    let started = start_lanes(lane, line.lanes, before.0);
-                    lane = started.lane;
-                    counts = started.counts;
-                }
+                count_answer(waits, i, called.change.answer);
+                counts = store_call(&mut lane, &mut flag, i, called, line.lanes, pointer);
+                size = called.change.size;
+                pointer = called.change.pointer;
             }
+        } else if let Some((refusal, next)) = refuse_line(
+            line,
+            size,
+            pointer,
+            counts,
+            book.len(),
+            sheet,
+            at,
+        ) {
+            at = next;
+            length = put_refusal(out, length, number_of(number), refusal);
         } else {
-            let refused = refuse_line(line, size, pointer, counts, book.len(), sheet, at);
-            if refused.number == 0 {
-                let now = line_with(line, size, pointer, lane, flag);
-                return stand_at(now, at, length, number_of(number));
-            }
-            at = refused.at;
-            length = put_refusal(out, length, number_of(number), refused.number);
+            let now = line_with(line, size, pointer, lane, flag);
+            return stand_at(now, at, length, number_of(number));
         }
         number = next_number(number);
     }

@@ -8,8 +8,8 @@ ghost use Rattle.report.specs.Lent.{cannot_count};
 ghost use Rattle.run_text.specs.RunText.{most_last, most_text};
 ghost use Rattle.run.specs.Runs.{Ended, RunMeets, RunSound};
 
-use answer_text::{Printed, put_answer};
-use event::Reading;
+use answer_text::{TooShort, put_answer};
+use event::Refusal;
 use lanes_run::{run_lanes, stand_at};
 use line::Line;
 use line_calls::call_line;
@@ -24,33 +24,37 @@ use wait_counts::{COUNTS, grow};
 #[derive(Clone, Copy)]
 pub struct RunOutcome {
     pub line: Line,
-    pub printed: Printed,
+    pub printed: Result<usize, TooShort>,
 }
 
 // The same with the report of waiting, where that is handed over by value.
 #[derive(Clone, Copy)]
 pub struct Reported {
     pub line: Line,
-    pub printed: Printed,
+    pub printed: Result<usize, TooShort>,
     pub report: Report,
 }
 
-// The end of a run: the last lines stored, the line and the report as they are.
+// The end of a run, by a refusal where there is one: the last lines stored, the line and the report as they are.
 fn end_run(
     line: Line,
-    reading: Reading,
+    refusal: Option<Refusal>,
     out: &mut [u8],
     at: usize,
     number: u64,
     report: Report,
 ) -> Reported
     requires { at + most_last ≤ length out.old }
-    ensures { Ended at number reading line report out.old result out.new }
+    ensures { Ended at number refusal line report out.old result out.new }
 {
-    let end = put_last(line, reading, out, at, number);
+    let reason = match refusal {
+        Some(refusal) => Some(refusal.number()),
+        None => None,
+    };
+    let end = put_last(line, reason, out, at, number);
     Reported {
         line,
-        printed: Printed::Length(end),
+        printed: Ok(end),
         report,
     }
 }
@@ -65,22 +69,24 @@ fn run_sound(line: Line, book: &mut [u8], sheet: &[u8], out: &mut [u8], report: 
     let mut from = stand_at(line, 0, 0, 0);
     loop {
         let to = run_lanes(from, book, sheet, out, &mut waits);
-        let here = to.line;
         let step = event_at(sheet, to.at);
         let reading = step.reading;
-        let Reading::Event { event, next: _ } = reading else {
+        let Ok(found) = reading else {
+            let refusal = reading.err();
             let grown = grow(report, &waits);
-            return end_run(here, reading, out, to.length, to.number, grown);
+            return end_run(to.line, refusal, out, to.length, to.number, grown);
         };
-        let scope = scope_of(event);
-        let Scope::Line { call } = scope else {
-            return end_run(here, Reading::Refused(2), out, to.length, to.number, report);
+        let Some((event, _)) = found else {
+            let grown = grow(report, &waits);
+            return end_run(to.line, None, out, to.length, to.number, grown);
         };
-        let called = call_line(here, book, call);
-        let answer = called.answer;
-        let length = put_answer(out, to.length, to.number, answer);
-        let after = called.line;
-        from = stand_at(after, step.at, length, to.number + 1);
+        let Scope::Line { call } = scope_of(event) else {
+            let refusal = Some(Refusal::UnlistedKind);
+            return end_run(to.line, refusal, out, to.length, to.number, report);
+        };
+        let called = call_line(to.line, book, call);
+        let length = put_answer(out, to.length, to.number, called.answer);
+        from = stand_at(called.line, step.at, length, to.number + 1);
     }
 }
 
@@ -98,15 +104,15 @@ pub fn run_reported(
     if !has_room(sheet.len(), out.len()) {
         return Reported {
             line,
-            printed: Printed::TooShort,
+            printed: Err(TooShort),
             report,
         };
     }
     if !is_sound(line, book.len()) {
-        return end_run(line, Reading::Refused(1), out, 0, 0, report);
+        return end_run(line, Some(Refusal::NotSound), out, 0, 0, report);
     }
     if cannot_count(report, sheet.len()) {
-        return end_run(line, Reading::Refused(17), out, 0, 0, report);
+        return end_run(line, Some(Refusal::TooLarge), out, 0, 0, report);
     }
     run_sound(line, book, sheet, out, report)
 }

@@ -1,5 +1,5 @@
 -- What the functions of the kinds share: a call put together from what was read, decided and printed.
-use Prim.Native.Nat.{ℕ, ◌+◌, ◌≤◌}
+use Prim.Native.Nat.{ℕ, ◌+◌, ◌≤◌, ◌<◌}
 use mathlib.Core.Path.{◌≡◌, refl, sym, ap, ◌∙◌, subst}
 use mathlib.Core.Bool.{true, false, false≢true}
 use mathlib.Core.List.{List, ◌∷◌}
@@ -8,6 +8,9 @@ use native.Mathlib.Omega.{arith}
 use Rattle.tiling.specs.declared.Tiling.{Tiling}
 use Rattle.lane_tests.specs.declared.tallies.LaneCounts.{LaneCounts}
 use Rattle.event.specs.Event.{event_of, fields_in}
+use Rattle.event.specs.Refusal.{number_of}
+use Rattle.event.specs.declared.Refusal.{Refusal}
+use Rattle.event.proofs.Reasons.{some_number}
 use Rattle.decode_fields.specs.Fields.{fields_at, total, values}
 use Rattle.steps.specs.declared.Answer.{Answer}
 use Rattle.changes.specs.Change.{counts_after, missing_lane}
@@ -46,6 +49,26 @@ ran_with call rest is counted fields event change puts text =
       puts = puts;
       text = text;
     })
+
+-- a reason's number is a byte
+pub byte : (reason : Refusal) → number_of reason < 256
+byte Refusal.NotSound = omega arith
+byte Refusal.UnlistedKind = omega arith
+byte Refusal.CutShort = omega arith
+byte Refusal.NotOpen = omega arith
+byte Refusal.AlreadyOpen = omega arith
+byte Refusal.LanesOutside = omega arith
+byte Refusal.CapacityOutside = omega arith
+byte Refusal.NoSuchLane = omega arith
+byte Refusal.AboveTwo = omega arith
+byte Refusal.ViewBreaksRule = omega arith
+byte Refusal.LaneNotIdle = omega arith
+byte Refusal.LaneGathered = omega arith
+byte Refusal.WrongPhase = omega arith
+byte Refusal.NoWakeYet = omega arith
+byte Refusal.PointerOutside = omega arith
+byte Refusal.NoRoom = omega arith
+byte Refusal.TooLarge = omega arith
 
 -- a refusal with a number and up to an index that are known otherwise
 pub refused_as : {s : Seen} {k j next past at : ℕ} {out out-left : List ℕ} {r : Called} → k ≡ j → next ≡ past → RefusedBy s k next out at r out-left → RefusedBy s j past out at r out-left
@@ -138,6 +161,8 @@ module _ {h : Head} {sheet records flags book out out-left : List ℕ} {s : Seen
   by_free kind two three four five six seven eight ten none inside R =
       by_kind 9 (last_kind h.kind kind two three four five six seven eight ten) (λ z. omega (arith, z)) none (R t records book sheet inside)
 
-  pub by_refused : {number next : ℕ} → lane_kind h.kind ≡ true → h.to + total (rest_of h.kind) ≤ length sheet → (number ≡ 0 → ⊥) → number ≡ missing_lane s.lanes h.lane → next ≡ h.to + total (rest_of h.kind)
-      → RefusedBy s number next out at r out-left → RanCall h sheet s counts t records flags book out at r book out-left
-  by_refused kind room some is past R = by_missing kind room (λ z. some (is ∙ z)) (refused_as is past R) refl
+  pub by_refused : (reason : Refusal) {next : ℕ} → lane_kind h.kind ≡ true → h.to + total (rest_of h.kind) ≤ length sheet → number_of reason ≡ missing_lane s.lanes h.lane → next ≡ h.to + total (rest_of h.kind)
+      → RefusedBy s (number_of reason) next out at r out-left → RanCall h sheet s counts t records flags book out at r book out-left
+  by_refused reason kind room is past R =
+      let some : 0 < number_of reason = some_number reason in
+      by_missing kind room (λ z. absurd (omega (arith, is, z))) (refused_as is past R) refl

@@ -1,5 +1,5 @@
 -- A lane's call of a sheet: what it changes by the view's table, and what its function leaves. Tied to `decided_at` by sheet_calls/Tables: table_decided_lem.
-use Rattle.std.specs.Prelude.{ℕ, ◌+◌, ◌-◌, ◌≤◌, ◌≡◌, Bool, true, false, cond, not, List, [], ◌∷◌, eqb, length}
+use Rattle.std.specs.Prelude.{None, Result, Ok, Err, ℕ, ◌+◌, ◌-◌, ◌≤◌, ◌≡◌, Bool, true, false, cond, not, List, [], ◌∷◌, eqb, length}
 use Rattle.lists.specs.Lists.{bit}
 use Rattle.limits.specs.Limits.{most_lanes, most_pointer}
 use Rattle.view.specs.View.{place}
@@ -11,7 +11,8 @@ use Rattle.line.specs.declared.Phase.{Phase}
 use Rattle.lane_tests.specs.Rules.{not_idle}
 use Rattle.lane_tests.specs.declared.tallies.LaneCounts.{LaneCounts}
 use Rattle.event.specs.Event.{event_of}
-use Rattle.waitlist.specs.declared.Wakes.{Wakes}
+use Rattle.event.specs.Refusal.{number_of}
+use Rattle.event.specs.declared.Refusal.{Refusal}
 use Rattle.decode_fields.specs.Fields.{fields_at, total, values}
 use Rattle.steps.specs.Answer.{said_by}
 use Rattle.steps.specs.declared.Answer.{Answer}
@@ -120,38 +121,38 @@ RanFree s counts lane flags to out at r out-left =
     (t : Tiling) (records book sheet : List ℕ) → to ≤ length sheet → RanAt 9 sheet to s counts lane t records flags book out at r book out-left
 
 -- ---- 0A: what an enter with c records comes to, by the counts and the view's table
-abbrev pub table_entered : Seen → LaneCounts → Tiling → List ℕ → ℕ → Entered
+abbrev pub table_entered : Seen → LaneCounts → Tiling → List ℕ → ℕ → Result Entered Refusal
 table_entered s counts t records c =
     admitted s.phase (eqb counts.active counts.gathered) (table_fits t records s.capacity s.pointer (counts.total + c)) (eqb (counts.gathered + 1) s.lanes)
 
 -- the lane is gathered with c records; pointer p after it
 abbrev pub gathered_change : Seen → ℕ → Answer → Place → Change
-gathered_change s c a p = record { answer = a; phase = Phase.Gathered c; flag = s.flag; pointer = p; size = s.size; wakes = Wakes.None }
+gathered_change s c a p = record { answer = a; phase = Phase.Gathered c; flag = s.flag; pointer = p; size = s.size; wakes = None }
 
 -- what is changed of the lane itself; all lanes start where the ordered call is complete
-abbrev pub enter_change : Seen → ℕ → ℕ → Entered → Change
-enter_change s c total (Entered.Refused k) = refused_change s k
-enter_change s c total Entered.Gathered = gathered_change s c Answer.Gathered s.pointer
-enter_change s c total Entered.Complete = gathered_change s c (Answer.Ordered s.pointer total) (place (s.pointer.0 + total))
+abbrev pub enter_change : Seen → ℕ → ℕ → Result Entered Refusal → Change
+enter_change s c total (Err k) = refused_change s (number_of k)
+enter_change s c total (Ok Entered.Gathered) = gathered_change s c Answer.Gathered s.pointer
+enter_change s c total (Ok Entered.Complete) = gathered_change s c (Answer.Ordered s.pointer total) (place (s.pointer.0 + total))
 
-abbrev pub is_complete : Entered → Bool
-is_complete (Entered.Refused k) = false
-is_complete Entered.Gathered = false
-is_complete Entered.Complete = true
+abbrev pub is_complete : Result Entered Refusal → Bool
+is_complete (Err k) = false
+is_complete (Ok Entered.Gathered) = false
+is_complete (Ok Entered.Complete) = true
 
 -- one lane more is gathered
 abbrev pub counts_entered : LaneCounts → ℕ → LaneCounts
 counts_entered counts c = record { active = counts.active + 1; gathered = counts.gathered + 1; total = counts.total + c }
 
 -- the pointer after an enter that is accepted is in its range
-abbrev pub Reaches : Seen → ℕ → Entered → Type 0
+abbrev pub Reaches : Seen → ℕ → Result Entered Refusal → Type 0
 Reaches s total entered = is_accepted entered ≡ true → s.pointer.0 + total ≤ most_pointer
 
 abbrev pub InReach : Seen → LaneCounts → Tiling → List ℕ → Type 0
 InReach s counts t records = (c : ℕ) → Reaches s (counts.total + c) (table_entered s counts t records c)
 
 -- what an enter gives that comes to `entered`
-abbrev pub entered_with : Seen → LaneCounts → ℕ → Entered → ℕ → ℕ → Called
+abbrev pub entered_with : Seen → LaneCounts → ℕ → Result Entered Refusal → ℕ → ℕ → Called
 entered_with s counts c entered end next =
     record {
       change = enter_change s c (counts.total + c) entered;

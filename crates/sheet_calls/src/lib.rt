@@ -1,27 +1,33 @@
 // A lane's call of a sheet: its fields read, decided, and the line of its answer stored. Each kind has a small function with one caller, so that it is inlined there.
 #![tactic(auto)]
 
-ghost use Rattle.std.specs.Prelude.{◌+◌, ◌≤◌, false, true, ◌≡◌, length};
+ghost use Rattle.std.specs.Prelude.{◌+◌, ◌≤◌, ◌<◌, false, true, ◌≡◌, length};
 ghost use Rattle.lists.specs.Lists.{bit};
 ghost use Rattle.limits.specs.Limits.{most_lanes};
+ghost use Rattle.view.specs.View.{place};
+ghost use Rattle.tiling.specs.Tiling.{Shows, TablePositioned, table_fits};
 ghost use Rattle.lane_tests.specs.Rules.{not_idle};
+ghost use Rattle.event.specs.Refusal.{number_of};
 ghost use Rattle.sheet_calls.specs.Calls.{RanCall, Ready, RefusedBy, Room, active_after, called_with, is_refusal, with_active};
 ghost use Rattle.answer_text.specs.Printing.{most_values};
 
 use answer_text::put_refused;
 use call_head::{Head, rest_of};
 use changes::{Change, Seen, missing_lane, refuse};
+use event::Refusal;
 use lane_tests::tallies::LaneCounts;
 use limits::MOST_LANES;
 use line::Phase;
 use steps::Answer;
 use tiling::{MOST_RECORDS, Tiling};
+use view::{Place, Position};
 
 mod enter;
 mod records;
 mod turns;
 
 // What a call changes, the counts of all lanes after it (of a refused call they mean nothing, and are not stored), the index after its line, the index of the next event, whether it was refused, and whether it starts an ordered call.
+// The answer says both; told by it, or by one enum of three, an event takes 20 to 50 instructions more.
 #[derive(Clone, Copy)]
 pub struct Called {
     pub change: Change,
@@ -40,48 +46,62 @@ pub struct Caller {
     pub counts: LaneCounts,
 }
 
+// What a position needs of a view: its three numbers, and the table of the records that it shows of a tile, lent by the run that made it.
+#[derive(Clone, Copy)]
+pub struct Table<'a> {
+    pub tiling: Tiling,
+    pub records: &'a [u16; MOST_RECORDS],
+}
+
+impl Table<'_> {
+    // The position of the record with this number among those shown.
+    fn position(self, number: u64) -> Position
+        requires { Shows self.tiling × (number < 8589934592) }
+        ensures { TablePositioned self.entry.tiling self.entry.records.now (place number) result }
+    {
+        self.tiling.position(self.records, number)
+    }
+
+    // Whether a run of records from a place ends at or below the capacity.
+    fn fits(self, capacity: u32, place: Place, count: u32) -> bool
+        requires { Shows self.tiling }
+        ensures { result ≡ table_fits self.entry.tiling self.entry.records.now capacity place count }
+    {
+        self.tiling.fits(self.records, capacity, place, count)
+    }
+}
+
 // Whether an answer is a refusal.
 fn is_refusal(answer: Answer) -> bool
     ensures { result ≡ is_refusal answer }
 {
-    match answer {
-        Answer::Refused { number: _ } => true,
-        _ => false,
-    }
+    matches!(answer, Answer::Refused { number: _ })
 }
 
 // 1 for a lane that is not idle.
 fn not_idle(x: Phase) -> u32
     ensures { (result ≡ bit (not_idle x)) × (result ≤ 1) }
 {
-    if phase_tests::is_idle(x) {
-        return 0;
-    }
-    1
+    if phase_tests::is_idle(x) { 0 } else { 1 }
 }
 
 // The counts with another number of lanes that are not idle.
 fn with_active(counts: LaneCounts, active: u32) -> LaneCounts
     ensures { result ≡ with_active counts active }
 {
-    LaneCounts {
-        active,
-        gathered: counts.gathered,
-        total: counts.total,
-    }
+    LaneCounts { active, ..counts }
 }
 
 // A call by what it changes, the counts after it, and where its line ends.
 fn call_with(counts: LaneCounts, change: Change, end: usize, next: usize) -> Called
     ensures { result ≡ called_with counts change end next }
 {
-    let answer = change.answer;
     Called {
         change,
         counts,
         end,
         next,
-        refused: is_refusal(answer),
+        refused: is_refusal(change.answer),
         starts: false,
     }
 }
@@ -91,45 +111,36 @@ fn call_active(counts: LaneCounts, change: Change, end: usize, next: usize) -> C
     requires { (is_refusal change.answer ≡ false → 1 ≤ counts.active) × (counts.active ≤ most_lanes) }
     ensures { result ≡ called_with (active_after counts change) change end next }
 {
-    let answer = change.answer;
-    if is_refusal(answer) {
+    if is_refusal(change.answer) {
         return call_with(counts, change, end, next);
     }
-    let phase = change.phase;
-    let active = counts.active - 1 + not_idle(phase);
+    let active = counts.active - 1 + not_idle(change.phase);
     call_with(with_active(counts, active), change, end, next)
 }
 
 // For a field that the sheet does not have: never reached, since a call's body is whole.
-fn cut_short(seen: Seen, counts: LaneCounts, at: usize, to: usize) -> Called
+fn cut_short(caller: Caller, at: usize) -> Called
     ensures { result.refused ≡ true }
 {
     Called {
-        change: refuse(seen, 3),
-        counts,
+        change: refuse(caller.seen, Refusal::CutShort),
+        counts: caller.counts,
         end: at,
-        next: to,
+        next: caller.head.to,
         refused: true,
         starts: false,
     }
 }
 
 // A refusal of any call, with its line.
-fn refused_call(
-    seen: Seen,
-    counts: LaneCounts,
-    number: u8,
-    next: usize,
-    out: &mut [u8],
-    at: usize,
-) -> Called
+fn refused_call(caller: Caller, reason: Refusal, next: usize, out: &mut [u8], at: usize) -> Called
     requires { at + most_values ≤ length out.old }
-    ensures { RefusedBy seen number next out.old at result out.new }
+    ensures { RefusedBy caller.seen (number_of reason) next out.old at result out.new }
 {
-    let end = put_refused(out, at, number);
+    let end = put_refused(out, at, reason.number());
     Called {
-        change: refuse(seen, number),
-        counts,
+        change: refuse(caller.seen, reason),
+        counts: caller.counts,
         end,
         next,
         refused: true,
@@ -141,37 +152,30 @@ fn refused_call(
 #[tactic(auto, using(crate::proofs::Rans::by_want, crate::proofs::Rans::by_receive, crate::proofs::Rans::by_take, crate::proofs::Rans::by_write, crate::proofs::Rans::by_read, crate::proofs::Rans::by_put, crate::proofs::Rans::by_look, crate::proofs::Rans::by_free, crate::proofs::Rans::by_entered, crate::proofs::Rans::by_refused))]
 pub fn call_lane(
     caller: Caller,
-    tiling: Tiling,
-    table: &[u16; MOST_RECORDS],
+    table: Table<'_>,
     flags: &[u8; MOST_LANES],
     book: &mut [u8],
     sheet: &[u8],
     out: &mut [u8],
     at: usize,
 ) -> Called
-    requires ready { Ready caller.seen caller.counts tiling table.now (length book.old) }
+    requires ready { Ready caller.seen caller.counts table.tiling table.records.now (length book.old) }
     requires room { Room caller.head sheet.now out.old at }
-    ensures { RanCall caller.head sheet.now caller.seen caller.counts tiling table.now flags.now book.old out.old at result book.new out.new }
+    ensures { RanCall caller.head sheet.now caller.seen caller.counts table.entry.tiling table.entry.records.now flags.now book.old out.old at result book.new out.new }
 {
-    let head = caller.head;
-    let seen = caller.seen;
-    let counts = caller.counts;
-    let kind = head.kind;
-    let to = head.to;
-    let lane = head.lane;
-    let missing = missing_lane(seen.lanes, lane);
-    if missing != 0 {
-        return refused_call(seen, counts, missing, to + rest_of(kind), out, at);
+    let kind = caller.head.kind;
+    if let Some(reason) = missing_lane(caller.seen.lanes, caller.head.lane) {
+        return refused_call(caller, reason, caller.head.to + rest_of(kind), out, at);
     }
     match kind {
-        0x02 => turns::call_want(seen, counts, lane, flags, sheet, to, out, at),
-        0x03 => turns::call_receive(seen, counts, to, out, at),
-        0x04 => turns::call_take(seen, counts, lane, tiling, table, flags, sheet, to, out, at),
-        0x05 => records::call_write(seen, counts, tiling, table, book, sheet, to, out, at),
-        0x06 => records::call_read(seen, counts, tiling, table, book, to, out, at),
-        0x07 => records::call_put(seen, counts, tiling, table, book, sheet, to, out, at),
-        0x08 => records::call_look(seen, counts, tiling, table, book, sheet, to, out, at),
-        0x0A => enter::call_enter(seen, counts, tiling, table, sheet, to, out, at),
-        _ => turns::call_free(seen, counts, lane, flags, to, out, at),
+        0x02 => turns::call_want(caller, flags, sheet, out, at),
+        0x03 => turns::call_receive(caller, out, at),
+        0x04 => turns::call_take(caller, table, flags, sheet, out, at),
+        0x05 => records::call_write(caller, table, book, sheet, out, at),
+        0x06 => records::call_read(caller, table, book, out, at),
+        0x07 => records::call_put(caller, table, book, sheet, out, at),
+        0x08 => records::call_look(caller, table, book, sheet, out, at),
+        0x0A => enter::call_enter(caller, table, sheet, out, at),
+        _ => turns::call_free(caller, flags, out, at),
     }
 }

@@ -8,119 +8,91 @@ ghost use Rattle.changes.specs.Change.{Counted};
 ghost use Rattle.answer_text.specs.Printing.{most_values};
 ghost use Rattle.sheet_calls.specs.Calls.{RanLook, RanPut, RanRead, RanWrite};
 
-use crate::{Called, call_active, cut_short};
-use changes::Seen;
-use decode_fields::{Field32, Field64, read_u32, read_u64};
-use kind_text::{put_looked, put_read, put_stored, put_written};
-use lane_tests::tallies::LaneCounts;
-use tiling::{MOST_RECORDS, Tiling};
+use crate::{Called, Caller, Table, call_active, cut_short};
+use decode_fields::Field;
+use kind_text::{put_read, put_written};
+use phase_tests::place_in;
 
 // 05.
 pub fn call_write(
-    seen: Seen,
-    counts: LaneCounts,
-    tiling: Tiling,
-    records: &[u16; MOST_RECORDS],
+    caller: Caller,
+    table: Table<'_>,
     book: &mut [u8],
     sheet: &[u8],
-    to: usize,
     out: &mut [u8],
     at: usize,
 ) -> Called
-    requires state { Counted counts seen.phase × Shows tiling × ((place_in seen.phase).0 ≤ most_pointer) × (seen.capacity ≤ length book.old) }
-    requires writer { writable seen (table_position tiling records.now (place_in seen.phase)) ≡ true }
-    requires room { (to + 8 ≤ length sheet.now) × (at + most_values ≤ length out.old) }
-    ensures { RanWrite seen counts tiling records.now book.old sheet.now to out.old at result book.new out.new }
+    requires state { Counted caller.counts caller.seen.phase × Shows table.tiling × ((place_in caller.seen.phase).0 ≤ most_pointer) × (caller.seen.capacity ≤ length book.old) }
+    requires writer { writable caller.seen (table_position table.tiling table.records.now (place_in caller.seen.phase)) ≡ true }
+    requires room { (caller.head.to + 8 ≤ length sheet.now) × (at + most_values ≤ length out.old) }
+    ensures { RanWrite caller.seen caller.counts table.entry.tiling table.entry.records.now book.old sheet.now caller.head.to out.old at result book.new out.new }
 {
-    let Field64::Value(content, next) = read_u64(sheet, to) else {
-        return cut_short(seen, counts, at, to);
+    let Some((content, next)) = u64::read(sheet, caller.head.to) else {
+        return cut_short(caller, at);
     };
-    let phase = seen.phase;
-    let place = phase_tests::place_in(phase);
-    let position = tiling.position(records, place.0 as u64);
-    let change = record_calls::write(seen, position);
-    let answer = change.answer;
-    record_calls::store(book, answer, content);
-    let end = put_written(out, at, answer);
-    call_active(counts, change, end, next)
+    let position = table.position(u64::from(place_in(caller.seen.phase).0));
+    let change = record_calls::write(caller.seen, position);
+    record_calls::store(book, change.answer, content);
+    let end = put_written(out, at, change.answer);
+    call_active(caller.counts, change, end, next)
 }
 
 // 06.
-pub fn call_read(
-    seen: Seen,
-    counts: LaneCounts,
-    tiling: Tiling,
-    records: &[u16; MOST_RECORDS],
-    book: &[u8],
-    to: usize,
-    out: &mut [u8],
-    at: usize,
-) -> Called
-    requires state { Counted counts seen.phase × Shows tiling × ((place_in seen.phase).0 ≤ most_pointer) × (seen.size ≤ length book.now) }
+pub fn call_read(caller: Caller, table: Table<'_>, book: &[u8], out: &mut [u8], at: usize) -> Called
+    requires state { Counted caller.counts caller.seen.phase × Shows table.tiling × ((place_in caller.seen.phase).0 ≤ most_pointer) × (caller.seen.size ≤ length book.now) }
     requires room { at + most_values ≤ length out.old }
-    ensures { RanRead seen counts tiling records.now book.now to out.old at result out.new }
+    ensures { RanRead caller.seen caller.counts table.entry.tiling table.entry.records.now book.now caller.head.to out.old at result out.new }
 {
-    let phase = seen.phase;
-    let place = phase_tests::place_in(phase);
-    let position = tiling.position(records, place.0 as u64);
-    let change = record_calls::read(seen, position, book);
-    let answer = change.answer;
-    let end = put_read(out, at, answer);
-    call_active(counts, change, end, to)
+    let position = table.position(u64::from(place_in(caller.seen.phase).0));
+    let change = record_calls::read(caller.seen, position, book);
+    let end = put_read(out, at, change.answer);
+    call_active(caller.counts, change, end, caller.head.to)
 }
 
 // 07.
 pub fn call_put(
-    seen: Seen,
-    counts: LaneCounts,
-    tiling: Tiling,
-    records: &[u16; MOST_RECORDS],
+    caller: Caller,
+    table: Table<'_>,
     book: &mut [u8],
     sheet: &[u8],
-    to: usize,
     out: &mut [u8],
     at: usize,
 ) -> Called
-    requires state { Counted counts seen.phase × Shows tiling × (seen.capacity ≤ length book.old) }
-    requires room { (to + 12 ≤ length sheet.now) × (at + most_values ≤ length out.old) }
-    ensures { RanPut seen counts tiling records.now book.old sheet.now to out.old at result book.new out.new }
+    requires state { Counted caller.counts caller.seen.phase × Shows table.tiling × (caller.seen.capacity ≤ length book.old) }
+    requires room { (caller.head.to + 12 ≤ length sheet.now) × (at + most_values ≤ length out.old) }
+    ensures { RanPut caller.seen caller.counts table.entry.tiling table.entry.records.now book.old sheet.now caller.head.to out.old at result book.new out.new }
 {
-    let Field32::Value(place, to_content) = read_u32(sheet, to) else {
-        return cut_short(seen, counts, at, to);
+    let Some((place, to_content)) = u32::read(sheet, caller.head.to) else {
+        return cut_short(caller, at);
     };
-    let Field64::Value(content, next) = read_u64(sheet, to_content) else {
-        return cut_short(seen, counts, at, to);
+    let Some((content, next)) = u64::read(sheet, to_content) else {
+        return cut_short(caller, at);
     };
-    let position = tiling.position(records, place as u64);
-    let change = record_calls::put(seen, position);
-    let answer = change.answer;
-    record_calls::store(book, answer, content);
-    let end = put_stored(out, at, answer);
-    call_active(counts, change, end, next)
+    let position = table.position(u64::from(place));
+    let change = record_calls::put(caller.seen, position);
+    record_calls::store(book, change.answer, content);
+    let end = put_written(out, at, change.answer);
+    call_active(caller.counts, change, end, next)
 }
 
 // 08.
 pub fn call_look(
-    seen: Seen,
-    counts: LaneCounts,
-    tiling: Tiling,
-    records: &[u16; MOST_RECORDS],
+    caller: Caller,
+    table: Table<'_>,
     book: &[u8],
     sheet: &[u8],
-    to: usize,
     out: &mut [u8],
     at: usize,
 ) -> Called
-    requires state { Counted counts seen.phase × Shows tiling × (seen.size ≤ length book.now) }
-    requires room { (to + 4 ≤ length sheet.now) × (at + most_values ≤ length out.old) }
-    ensures { RanLook seen counts tiling records.now book.now sheet.now to out.old at result out.new }
+    requires state { Counted caller.counts caller.seen.phase × Shows table.tiling × (caller.seen.size ≤ length book.now) }
+    requires room { (caller.head.to + 4 ≤ length sheet.now) × (at + most_values ≤ length out.old) }
+    ensures { RanLook caller.seen caller.counts table.entry.tiling table.entry.records.now book.now sheet.now caller.head.to out.old at result out.new }
 {
-    let Field32::Value(place, next) = read_u32(sheet, to) else {
-        return cut_short(seen, counts, at, to);
+    let Some((place, next)) = u32::read(sheet, caller.head.to) else {
+        return cut_short(caller, at);
     };
-    let position = tiling.position(records, place as u64);
-    let change = record_calls::look(seen, position, book);
-    let answer = change.answer;
-    let end = put_looked(out, at, answer);
-    call_active(counts, change, end, next)
+    let position = table.position(u64::from(place));
+    let change = record_calls::look(caller.seen, position, book);
+    let end = put_read(out, at, change.answer);
+    call_active(caller.counts, change, end, next)
 }
