@@ -423,7 +423,7 @@ uint32_t gudlemi_version(void);
  *     gudlemi_remainder         16
  *     gudlemi_text_bound        16
  *     gudlemi_version           16
- *     gudlemi_call           21000
+ *     gudlemi_call           22000
  *     gudlemi_unopened        2600
  *     gudlemi_is_sound       14500
  *     gudlemi_lane             100
