@@ -47,8 +47,12 @@ pub fn rest_of(kind: u8) -> usize
 pub fn head_at(sheet: &[u8], at: usize) -> Option<Head>
     ensures { HeadMeets sheet.now at result }
 {
-    let (kind, to_lane) = u8::read(sheet, at)?;
-    let (lane, to) = u8::read(sheet, to_lane)?;
+    let Some((kind, to_lane)) = u8::read(sheet, at) else {
+        return None;
+    };
+    let Some((lane, to)) = u8::read(sheet, to_lane) else {
+        return None;
+    };
     if kind < 0x02 {
         return None;
     }

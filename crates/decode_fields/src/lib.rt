@@ -123,7 +123,9 @@ impl Field for Block {
     ghost numbers = { λ b. block_numbers (b ∷ []) };
 
     fn read(sheet: &[u8], at: usize) -> Option<(Block, usize)> {
-        let ((start, length), end) = <(u16, u16)>::read(sheet, at)?;
+        let Some(((start, length), end)) = <(u16, u16)>::read(sheet, at) else {
+            return None;
+        };
         Some((Block { start, length }, end))
     }
 }
@@ -136,8 +138,12 @@ impl<A: Field + Copy, B: Field + Copy> Field for (A, B) {
 
     #[tactic(auto, using(crate::proofs::InOrder::pair_cut, crate::proofs::InOrder::pair_cut_later, crate::proofs::InOrder::pair_got))]
     fn read(sheet: &[u8], at: usize) -> Option<((A, B), usize)> {
-        let (first, to_second) = A::read(sheet, at)?;
-        let (second, end) = B::read(sheet, to_second)?;
+        let Some((first, to_second)) = A::read(sheet, at) else {
+            return None;
+        };
+        let Some((second, end)) = B::read(sheet, to_second) else {
+            return None;
+        };
         Some(((first, second), end))
     }
 }
@@ -151,7 +157,11 @@ impl Field for [Block; MOST_BLOCKS] {
     ghost numbers = { block_numbers };
 
     fn read(sheet: &[u8], at: usize) -> Option<([Block; MOST_BLOCKS], usize)> {
-        let ((((b0, b1), (b2, b3)), ((b4, b5), (b6, b7))), end) = <(Four, Four)>::read(sheet, at)?;
+        let Some(((((b0, b1), (b2, b3)), ((b4, b5), (b6, b7))), end)) = <(Four, Four)>::read(
+            sheet, at,
+        ) else {
+            return None;
+        };
         Some(([b0, b1, b2, b3, b4, b5, b6, b7], end))
     }
 }
