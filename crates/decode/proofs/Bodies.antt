@@ -65,12 +65,17 @@ cut_three kind ns ms ls vs ws sheet at to on r q p k some l = cut_two kind (ns +
 pub ruleset cuts = (cut_one, cut_two, cut_three)
 
 -- ---- a kind that is none of the table's
-none_listed : (kind : ℕ) → EachKind (λ (n : ℕ). kind ≡ n → ⊥) → is_listed kind ≡ false
+pub none_listed : (kind : ℕ) → EachKind (λ (n : ℕ). kind ≡ n → ⊥) → is_listed kind ≡ false
 none_listed kind each = by_test (is_listed kind) (λ t. absurd (by_kind (λ (n : ℕ). kind ≡ n → ⊥) each kind t refl)) (λ f. f)
 
-pub body_unlisted : (kind : ℕ) (sheet : List ℕ) (at : ℕ)
+pub body_unlisted : (kind : ℕ) (sheet : List ℕ) (at : ℕ) → is_listed kind ≡ false → Err Refusal.UnlistedKind ≡ body_at kind sheet at
+unfolding body_at
+body_unlisted kind sheet at k = sym (rw k)
+
+-- the same by the tests of a match
+pub body_of_none : (kind : ℕ) (sheet : List ℕ) (at : ℕ)
     → (kind ≡ 1 → ⊥) → (kind ≡ 2 → ⊥) → (kind ≡ 3 → ⊥) → (kind ≡ 4 → ⊥) → (kind ≡ 5 → ⊥) → (kind ≡ 6 → ⊥)
     → (kind ≡ 7 → ⊥) → (kind ≡ 8 → ⊥) → (kind ≡ 9 → ⊥) → (kind ≡ 10 → ⊥) → (kind ≡ 11 → ⊥) → (kind ≡ 12 → ⊥)
     → Err Refusal.UnlistedKind ≡ body_at kind sheet at
-unfolding body_at
-body_unlisted kind sheet at a b c d e f g h i j k l = sym (rw (none_listed kind (a ▹ b ▹ c ▹ d ▹ e ▹ f ▹ g ▹ h ▹ i ▹ j ▹ k ▹ l ▹ listed)))
+body_of_none kind sheet at a b c d e f g h i j k l =
+    body_unlisted kind sheet at (none_listed kind (a ▹ b ▹ c ▹ d ▹ e ▹ f ▹ g ▹ h ▹ i ▹ j ▹ k ▹ l ▹ listed))

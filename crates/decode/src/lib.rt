@@ -209,7 +209,7 @@ fn read_seek(sheet: &[u8], at: usize) -> Reading
 }
 
 // The event of a kind whose body starts at an index, or refusal 2 or 3.
-#[tactic(auto, using(crate::proofs::Bodies::body_unlisted))]
+#[tactic(auto, using(crate::proofs::Bodies::body_of_none))]
 pub fn read_body(kind: u8, sheet: &[u8], at: usize) -> Reading
     ensures { result ≡ body_at kind sheet.now at }
 {

@@ -15,6 +15,8 @@ use Rattle.event.specs.Kinds.{body_length, field_lengths, is_listed}
 use Rattle.event.specs.Event.{bytes_of, event_bytes, fields_of, kind_of}
 use Rattle.event.specs.ReadWrite.{Writing, writing_of, written_to}
 use Rattle.event.specs.declared.Event.{Event}
+use Rattle.event.proofs.ByKind.{EightBlocks}
+use Rattle.event.proofs.RoundTrip.{body_length_lem}
 use Rattle.encode_fields.specs.Put.{put_fields}
 use Rattle.encode.specs.Written.{length_of_event, with_event}
 
@@ -87,11 +89,22 @@ event_left buffer e n h whole room =
 pub refused_2 : (buffer : List ℕ) (e : Event) → None ≡ length_of_event e → (Err Refusal.UnlistedKind ≡ writing_of buffer e) × (buffer ≡ written_to buffer e)
 refused_2 buffer e h = (refused_2_says buffer e h, refused_2_stays buffer e h)
 
--- (that an event's bytes are as many as its kind's body has, and one more, holds of each whose view has eight blocks)
-pub refused_3 : (buffer : List ℕ) (e : Event) (n : ℕ) → Some n ≡ length_of_event e → length (event_bytes e) ≡ 1 + body_length (kind_of e) → length buffer < n
+pub refused_3_whole : (buffer : List ℕ) (e : Event) (n : ℕ) → Some n ≡ length_of_event e → length (event_bytes e) ≡ 1 + body_length (kind_of e) → length buffer < n
     → (Err Refusal.CutShort ≡ writing_of buffer e) × (buffer ≡ written_to buffer e)
-refused_3 buffer e n h whole less = (refused_3_says buffer e n h whole less, refused_3_stays buffer e n h whole less)
+refused_3_whole buffer e n h whole less = (refused_3_says buffer e n h whole less, refused_3_stays buffer e n h whole less)
 
-pub written : (buffer : List ℕ) (e : Event) (n : ℕ) → Some n ≡ length_of_event e → length (event_bytes e) ≡ 1 + body_length (kind_of e) → n ≤ length buffer
+pub written_whole : (buffer : List ℕ) (e : Event) (n : ℕ) → Some n ≡ length_of_event e → length (event_bytes e) ≡ 1 + body_length (kind_of e) → n ≤ length buffer
     → (Ok n ≡ writing_of buffer e) × (with_event buffer e ≡ written_to buffer e)
-written buffer e n h whole room = (written_says buffer e n h whole room, event_left buffer e n h whole room)
+written_whole buffer e n h whole room = (written_says buffer e n h whole room, event_left buffer e n h whole room)
+
+-- the same of each event: the blocks of a view are a list here, and EightBlocks says of it what the type of the array says
+whole_event : (e : Event) → EightBlocks e → length (event_bytes e) ≡ 1 + body_length (kind_of e)
+whole_event e eight = omega (arith, body_length_lem e eight)
+
+pub refused_3 : (buffer : List ℕ) (e : Event) (n : ℕ) → Some n ≡ length_of_event e → EightBlocks e → length buffer < n
+    → (Err Refusal.CutShort ≡ writing_of buffer e) × (buffer ≡ written_to buffer e)
+refused_3 buffer e n h eight less = refused_3_whole buffer e n h (whole_event e eight) less
+
+pub written : (buffer : List ℕ) (e : Event) (n : ℕ) → Some n ≡ length_of_event e → EightBlocks e → n ≤ length buffer
+    → (Ok n ≡ writing_of buffer e) × (with_event buffer e ≡ written_to buffer e)
+written buffer e n h eight room = written_whole buffer e n h (whole_event e eight) room

@@ -5,7 +5,6 @@ use native.Mathlib.Omega.{arith}
 use borrow.Author.Tests.{leb-true}
 use Rattle.steps.specs.Meets.{state_of}
 use Rattle.lists.proofs.Tests.{and_both}
-use Rattle.event.specs.declared.Refusal.{Refusal}
 use Rattle.report.specs.Lent.{cannot_count, gets17, is_sound}
 use Rattle.report.proofs.Grown.{run_grows}
 use Rattle.report.proofs.Refusal.{unsound_gets_1, unsound_report_as_lent, with_17_nothing_runs, with_17_report_as_lent, without_17_as_without_report}
@@ -28,7 +27,7 @@ returns-then-not-is_sound c =
     let unsound = sym c.if-not-is_sound.ensures in
     let roomy = sym c.if-not-has_room.ensures in
     with_room x a.report a.sheet.now a.out.now _ _ _ _ _ roomy (unsound_gets_1 x a.report a.sheet.now unsound) (unsound_report_as_lent x a.report a.sheet.now unsound)
-    (rw c.end_run.ensures.is (refused_run Refusal.NotSound x a.report a.out.now _ _ c.end_run.ensures.text (omega (arith, c.end_run.ensures.short, leb-true _ _ roomy))))
+    (rw c.end_run.ensures.is (refused_run 1 x a.report a.out.now _ _ c.end_run.ensures.text (omega (arith, c.end_run.ensures.short, leb-true _ _ roomy))))
 
 -- 17
 pub end_run-requires-then-cannot_count : goal.end_run-requires-then-cannot_count
@@ -41,7 +40,7 @@ returns-then-cannot_count c =
     let roomy = sym c.if-not-has_room.ensures in
     let full = and_both (is_sound x) (cannot_count a.report a.sheet.now) (sym c.if-not-is_sound.ensures) (sym c.if-cannot_count.ensures) in
     with_room x a.report a.sheet.now a.out.now _ _ _ _ _ roomy (with_17_nothing_runs x a.report a.sheet.now full) (with_17_report_as_lent x a.report a.sheet.now full)
-    (rw c.end_run-then-cannot_count.ensures.is (refused_run Refusal.TooLarge x a.report a.out.now _ _ c.end_run-then-cannot_count.ensures.text (omega (arith, c.end_run-then-cannot_count.ensures.short, leb-true _ _ roomy))))
+    (rw c.end_run-then-cannot_count.ensures.is (refused_run 17 x a.report a.out.now _ _ c.end_run-then-cannot_count.ensures.text (omega (arith, c.end_run-then-cannot_count.ensures.short, leb-true _ _ roomy))))
 
 -- the first event is come to
 pub run_sound-requires : goal.run_sound-requires

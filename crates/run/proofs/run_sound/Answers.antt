@@ -18,7 +18,7 @@ use Rattle.refuse.proofs.Shape.{shape_of}
 use Rattle.lanes_run.specs.declared.Standing.{Standing}
 use Rattle.lanes_run.proofs.Going.{starts}
 use Rattle.lanes_run.proofs.Waits.{counts_start}
-use Rattle.run.proofs.Going.{advances, begins, ends, ends_refused, growable, line_called, longer, no_other, room}
+use Rattle.run.proofs.Going.{advances, begins, ends_refused, ends_sheet, growable, line_called, longer, no_other, room}
 use Rattle.run.proofs.run_sound.Goals as goal
 
 pub loop-found-init : goal.loop-found-init
@@ -60,7 +60,7 @@ returns-in_default-found c =
     let A = advances c.loop-found.invariant c.run_lanes-to.ensures.part in
     let read = sym (ap (λ (t : Step). t.reading) c.event_at-step.ensures) ∙ c.in-Ok.is ∙ ap Ok c.in_default-found.is in
     rw (c.end_run-in_default-found.ensures.is, c.grow-grown-in_default-found.ensures)
-    (ends _ _ _ _ _ _ _ _ _ _ A s.report (rows_of s.report c.well_formed.1.1.1.1.0) (good_of s.line (length s.book.now) (shape_of s.line c.well_formed.0) c.requires.0) c.requires.0 _ _ read
+    (ends_sheet _ _ _ _ _ _ _ _ _ _ A s.report (rows_of s.report c.well_formed.1.1.1.1.0) (good_of s.line (length s.book.now) (shape_of s.line c.well_formed.0) c.requires.0) c.requires.0 _ _ read
     c.end_run-in_default-found.ensures.text (omega (arith, c.end_run-in_default-found.ensures.short, room _ _ _ _ _ _ _ _ _ _ A c.requires.1, A.going.out_length)))
 
 pub returns-in_default : goal.returns-in_default
