@@ -287,24 +287,24 @@ module _ {sheet : List ℕ} {x₀ : State} {out₀ : List ℕ} {from so_far firs
 
   module _ (i : ℕ) (own : i ≡ entry_of h.lane) (told : r.refused ≡ false) where
     -- a change that wakes no lane and starts none
-    none_on : r.change.wakes ≡ None → r.starts ≡ false → After (stored_line l i r.change)
+    pub none_on : r.change.wakes ≡ None → r.starts ≡ false → After (stored_line l i r.change)
     none_on none waits =
         by_ten (λ apart. lane_none apart i own none)
         (λ ten. let there = not_missing ten told in enter_gathered_on ten there i own (gathered_is ten there (comes ten there) refl told waits))
 
-    none_on_counts : r.change.wakes ≡ None → r.starts ≡ false → r.counts ≡ counts_of (stored_line l i r.change).lane
+    pub none_on_counts : r.change.wakes ≡ None → r.starts ≡ false → r.counts ≡ counts_of (stored_line l i r.change).lane
     none_on_counts none waits =
         by_ten (λ apart. lane_none_counts apart i own none told)
         (λ ten. let there = not_missing ten told in enter_gathered_counts ten there i own (gathered_is ten there (comes ten there) refl told waits))
 
     -- an ordered call that is complete: the lanes past N are idle
-    started_past : r.starts ≡ true → (y : Lane) → IdlePast l.lanes (set l.lane i y)
+    pub started_past : r.starts ≡ true → (y : Lane) → IdlePast l.lanes (set l.lane i y)
     started_past begins y =
         by_ten (λ apart. absurd (false≢true (sym (lane_ran apart).starts ∙ begins)))
         (λ ten. let below' = below ten (not_missing ten told) in
         subst (λ (j : ℕ). IdlePast l.lanes (set l.lane j y)) (entry_is h.lane (index_in l book G.shaped G.is_sound h.lane below') ∙ sym own) (past_idle l book G.shaped G.is_sound h.lane below' y))
 
-    started_on : r.starts ≡ true → After (with_lanes (stored_line l i r.change) (started l.pointer.0 (stored_line l i r.change).lane))
+    pub started_on : r.starts ≡ true → After (with_lanes (stored_line l i r.change) (started l.pointer.0 (stored_line l i r.change).lane))
     started_on begins =
         subst (λ (p : Place). After (with_lanes (stored_line l i r.change) (started p.0 (stored_line l i r.change).lane))) (ap (λ (v : Seen). v.pointer) sees)
         (by_ten (λ apart. absurd (false≢true (sym (lane_ran apart).starts ∙ begins)))
@@ -322,10 +322,10 @@ module _ {sheet : List ℕ} {x₀ : State} {out₀ : List ℕ} {from so_far firs
           wakes_none (Ok Entered.Gathered) = refl
           wakes_none (Ok Entered.Complete) = refl
 
-      woken_on : After (with_phase (stored_line l i r.change) v y)
+      pub woken_on : After (with_phase (stored_line l i r.change) v y)
       woken_on = by_ten (λ apart. lane_woken apart i w v y own wakes entry phase) (λ ten. no_enter ten)
 
-      woken_on_counts : r.counts ≡ counts_of (with_phase (stored_line l i r.change) v y).lane
+      pub woken_on_counts : r.counts ≡ counts_of (with_phase (stored_line l i r.change) v y).lane
       woken_on_counts = by_ten (λ apart. lane_woken_counts apart i w v y own wakes entry phase told) (λ ten. no_enter ten)
 
     -- what it stores of the lanes and their flags, by what it wakes and starts, and the counts that it gives

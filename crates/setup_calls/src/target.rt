@@ -34,7 +34,7 @@ impl TryFrom<u8> for Whence {
 }
 
 // The end of the book is that in the view.
-fn base(size: u32, pointer: Place, view: View, whence: Whence) -> Place
+pub fn base(size: u32, pointer: Place, view: View, whence: Whence) -> Place
     ensures { result ≡ base_of (whence_number whence) pointer (end_of_book view size) }
 {
     match whence {
@@ -45,7 +45,7 @@ fn base(size: u32, pointer: Place, view: View, whence: Whence) -> Place
 }
 
 // A place moved by a signed offset, where it stays in the pointer's range.
-fn moved_by(base: Place, offset: i32) -> Option<Place>
+pub fn moved_by(base: Place, offset: i32) -> Option<Place>
     ensures { result ≡ sought_at (pos base.0 +ℤ offset) }
 {
     let sum = i64::from(base.0) + i64::from(offset);
