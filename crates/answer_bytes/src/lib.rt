@@ -111,6 +111,7 @@ impl Numbers {
     fn answer(self) -> Answer
         ensures { result ≡ answer_of (numbers_in self) }
     {
+        let place = self.place();
         match self.word {
             0 => Answer::Refused {
                 number: self.number,
@@ -119,12 +120,10 @@ impl Numbers {
                 lanes: (self.first % 256) as u8,
                 capacity: self.second,
             },
-            2 => Answer::Holds {
-                pointer: self.place(),
-            },
+            2 => Answer::Holds { pointer: place },
             3 => Answer::Waits,
             4 => Answer::Region {
-                start: self.place(),
+                start: place,
                 count: (self.second % 65536) as u16,
                 wakes: self.wakes(),
             },
@@ -139,13 +138,11 @@ impl Numbers {
             },
             9 => Answer::Gathered,
             10 => Answer::Ordered {
-                before: self.place(),
+                before: place,
                 total: self.second,
             },
             11 => Answer::View,
-            12 => Answer::Seek {
-                pointer: self.place(),
-            },
+            12 => Answer::Seek { pointer: place },
             _ => Answer::None,
         }
     }

@@ -5,6 +5,9 @@ use event::{Cursor, Event, Reading, Writing};
 use limits::MOST_BLOCKS;
 use view::{Block, Place};
 
+// The blocks of a view.
+type Blocks = [Block; MOST_BLOCKS];
+
 // What comes before a number, the number in decimal and a line end.
 fn print_after(lead: &[u8], value: u64) {
     io::write_all(1, lead);
@@ -99,7 +102,7 @@ fn print_block(b: Block) {
     print(b"length", b.length);
 }
 
-fn print_view(displacement: u32, extent: u16, used: u8, blocks: [Block; MOST_BLOCKS]) {
+fn print_view(displacement: u32, extent: u16, used: u8, blocks: Blocks) {
     print_hex(b"kind", 0x0B, 2);
     print(b"displacement", displacement);
     print(b"extent", extent);
@@ -216,7 +219,7 @@ fn block(start: u16, length: u16) -> Block {
 }
 
 // Eight blocks that differ in each byte.
-fn rising() -> [Block; MOST_BLOCKS] {
+fn rising() -> Blocks {
     [
         block(0x1011, 0x1213),
         block(0x1415, 0x1617),
@@ -230,14 +233,7 @@ fn rising() -> [Block; MOST_BLOCKS] {
 }
 
 // An event of each kind from the values of its fields.
-fn test_each(
-    byte: u8,
-    count: u16,
-    number: u32,
-    content: u64,
-    offset: i32,
-    blocks: [Block; MOST_BLOCKS],
-) {
+fn test_each(byte: u8, count: u16, number: u32, content: u64, offset: i32, blocks: Blocks) {
     let place = Place(number);
     test(Event::Open {
         lanes: byte,

@@ -69,6 +69,36 @@ fn put_fields(out: &mut [u8], at: usize, first: &[u8], a: u8, second: &[u8], b: 
     named(out, next, second, b, LINE_END)
 }
 
+// 01 open: how many lanes, and the capacity.
+fn put_open(out: &mut [u8], at: usize, lanes: u8, capacity: u32) -> usize
+    requires { at + most_words ≤ length out.old }
+    ensures { Stored (words (ascii "open    lanes" ∷ decimal lanes ∷ ascii "capacity" ∷ decimal capacity ∷ [])) out.old at out.new result × (result ≤ at + most_words) }
+{
+    put_fields(
+        out,
+        at,
+        b"open    lanes",
+        lanes,
+        b"capacity",
+        u64::from(capacity),
+    )
+}
+
+// 02 want: a lane and a purpose.
+fn put_want(out: &mut [u8], at: usize, lane: u8, purpose: u8) -> usize
+    requires { at + most_words ≤ length out.old }
+    ensures { Stored (words (ascii "want    lane" ∷ decimal lane ∷ ascii "purpose" ∷ decimal purpose ∷ [])) out.old at out.new result × (result ≤ at + most_words) }
+{
+    put_fields(
+        out,
+        at,
+        b"want    lane",
+        lane,
+        b"purpose",
+        u64::from(purpose),
+    )
+}
+
 // 05 write: a lane and a record.
 fn put_write(out: &mut [u8], at: usize, lane: u8, content: u64) -> usize
     requires { at + most_words ≤ length out.old }
@@ -182,26 +212,8 @@ pub fn put_event(out: &mut [u8], at: usize, event: Event) -> usize
     ensures { Stored (words (event_words event)) out.old at out.new result × (result ≤ at + most_words) }
 {
     match event {
-        Event::Open { lanes, capacity } => {
-            put_fields(
-                out,
-                at,
-                b"open    lanes",
-                lanes,
-                b"capacity",
-                u64::from(capacity),
-            )
-        }
-        Event::Want { lane, purpose } => {
-            put_fields(
-                out,
-                at,
-                b"want    lane",
-                lane,
-                b"purpose",
-                u64::from(purpose),
-            )
-        }
+        Event::Open { lanes, capacity } => put_open(out, at, lanes, capacity),
+        Event::Want { lane, purpose } => put_want(out, at, lane, purpose),
         Event::Receive { lane } => named(out, at, b"receive lane", u64::from(lane), LINE_END),
         Event::Take { lane, count } => {
             put_fields(out, at, b"take    lane", lane, b"count", u64::from(count))

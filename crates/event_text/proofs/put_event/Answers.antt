@@ -10,19 +10,19 @@ use Rattle.event_text.proofs.put_event.Goals as goal
 
 pub returns-in-Open : goal.returns-in-Open
 unfolding event_words words
-returns-in-Open c = (as_event c.in-Open.is (rw c.from.ensures at c.put_fields.ensures.0), search rules)
+returns-in-Open c = (as_event c.in-Open.is c.put_open.ensures.0, c.put_open.ensures.1)
 
 pub returns-in-Want : goal.returns-in-Want
 unfolding event_words words
-returns-in-Want c = (as_event c.in-Want.is (rw c.from-in-Want.ensures at c.put_fields-in-Want.ensures.0), search rules)
+returns-in-Want c = (as_event c.in-Want.is c.put_want.ensures.0, c.put_want.ensures.1)
 
 pub returns-in-Receive : goal.returns-in-Receive
 unfolding event_words words
-returns-in-Receive c = (as_event c.in-Receive.is (rw c.from-in-Receive.ensures at c.named.ensures.0.both), search rules)
+returns-in-Receive c = (as_event c.in-Receive.is (rw c.from.ensures at c.named.ensures.0.both), search rules)
 
 pub returns-in-Take : goal.returns-in-Take
 unfolding event_words words
-returns-in-Take c = (as_event c.in-Take.is (rw c.from-in-Take.ensures at c.put_fields-in-Take.ensures.0), search rules)
+returns-in-Take c = (as_event c.in-Take.is (rw c.from-in-Take.ensures at c.put_fields.ensures.0), search rules)
 
 pub returns-in-Write : goal.returns-in-Write
 unfolding event_words words
