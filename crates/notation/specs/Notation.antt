@@ -66,6 +66,13 @@ character_step (State.Byte value) c = between_step c
 abbrev pub after : State → ℕ → State
 after s c = unwrap_or (character_step s c) State.Between
 
+-- past the end of a byte a text goes on as between bytes
+abbrev pub settled : State → State
+settled State.Between = State.Between
+settled State.Comment = State.Comment
+settled (State.First high) = State.First high
+settled (State.Byte value) = State.Between
+
 -- the first digit of a byte is one
 abbrev pub Fits : State → Type 0
 Fits State.Between = ⊤
