@@ -12,17 +12,14 @@ use Rattle.notation.specs.Written.{digit_pairs, digits_from, digits_of}
 use Rattle.notation.specs.declared.Fault.{Fault}
 use Rattle.notation.specs.declared.State.{State}
 use Rattle.notation.proofs.Characters.{by_digit, digit_no_hash, digit_small, free_neither}
+use Rattle.notation.proofs.Laws.{bytes_settled, fault_settled}
 
 -- a byte that has ended leaves what a start leaves
 pub fault_whole : (v at : ℕ) (text : List ℕ) → fault_from at (State.Byte v) text ≡ fault_from at State.Between text
-unfolding fault_from
-fault_whole v at [] = refl
-fault_whole v at (c ∷ cs) = refl
+fault_whole v at text = fault_settled (State.Byte v) at text
 
 pub bytes_whole : (v : ℕ) (text : List ℕ) → bytes_from (State.Byte v) text ≡ bytes_from State.Between text
-unfolding bytes_from
-bytes_whole v [] = refl
-bytes_whole v (c ∷ cs) = refl
+bytes_whole v text = bytes_settled (State.Byte v) text
 
 -- a text with a fault is not without one
 pub fault_clash : {X : Type 0} (fault : Fault) → ◌≡◌ {A = Option Fault} (Some fault) None → X
